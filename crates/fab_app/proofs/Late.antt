@@ -11,9 +11,9 @@ use Rattle.fab_face.specs.Held.{Held, Seen, IsOpen}
 use Rattle.fab_face.specs.Acts.{Act, Did, Took, Posted, Drew as DrewOne, Had, GoesBy, is_draw, events}
 use Rattle.fab_face.specs.Answers.{AllAre, IsShort, Receives, ReceivesNot}
 use Rattle.fab_face.proofs.Joining.{goes_append, draws_move}
+use Rattle.fab_face.proofs.Going.{drew_shorter}
 use Rattle.fab_app.proofs.Answering.{refused_is}
 use Rattle.fab_app.proofs.Chains.{goes_none}
-use Rattle.fab_app.proofs.Shorter.{drew_shorter}
 use Rattle.fab_app.specs.Cleared.{cleared}
 use Rattle.fab_app.specs.Late.{Drew, ReceivesLate, ReceivesLateNot, is_late}
 

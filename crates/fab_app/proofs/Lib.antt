@@ -1,4 +1,3 @@
-pub mod Shorter
 pub mod Answering
 pub mod Chains
 pub mod Late

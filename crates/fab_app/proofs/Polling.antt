@@ -2,6 +2,7 @@
 use Rattle.std.proofs.Common.{◌≡◌, ◌≢◌, ◌<◌, ℕ, Bool, false, [], ◌++◌, length, append-nil, Result, Ok, Err, refl, sym, ap, ◌∙◌, subst, arith, inl, inr}
 use Rattle.std.specs.Prelude.{OnErr, count_by}
 use Rattle.fab_base.specs.declared.faults.NoMemory.{NoMemory}
+use Rattle.fab_base.proofs.Options.{on_err as whatever}
 use Rattle.fab_face.specs.declared.events.Moved.{Moved}
 use Rattle.fab_face.specs.declared.events.Stop.{Stop}
 use Rattle.fab_face.specs.declared.events.Stop.TheVariants.{Idle as StoppedIdle, Budget, CqFull, LogFull}
@@ -16,10 +17,6 @@ use Rattle.fab_app.specs.Cleared.{cleared}
 use Rattle.fab_app.specs.Progresses.{Moves, MovesAs, NextOf, Progresses, next_of}
 use Rattle.fab_app.proofs.Chains.{progressed_on, then_more}
 use Rattle.fab_app.specs.Polls.{Polls, PollsAs, Waits, HasNone, told_of, has_come, EndsPoll, TakesFirst}
-
-whatever : {T E : Type 0} (r : Result T E) (P : Type 0) → P → OnErr r P
-whatever (Ok x) P h = tt
-whatever (Err x) P h = h
 
 module _ {Home : Type 0} where
   pub moved_some : (fixed : Bool) (budget : ℕ) (old mid : Seen Home) (moved : Moved) → 0 < budget → (p : Progressed fixed budget old mid (Ok moved)) → moved.stop ≡ Budget → p.acts ≢ []

@@ -2,8 +2,8 @@
 //!
 //! A call is refused by the first of these that applies: `NotSupported` where a capability was not granted, `MsgSize` where there
 //! are more than `Info.message` bytes, or more than `Info.inject` of an inject call, `Invalid` where no address stands at index
-//! `dest`, `Again(TxFull)` where `Info.tx` operations are under way. A refused call changes nothing of what it was asked for, and
-//! may have posted what waited before it.
+//! `dest`, `Again(TxFull)` where `Info.tx` operations are under way. A refused call does nothing of what it was asked for. Before it
+//! was refused it may have posted frames of earlier calls.
 ghost use Rattle.std.specs.Prelude.{◌≡◌, Some, None, true, false, OnOk, IfErr};
 ghost use Rattle.fab_base.specs.declared.items.Kind.TheVariants.{Msg, TagMsg};
 ghost use Rattle.fab_base.specs.declared.peers.Level.TheVariants.{Inject};

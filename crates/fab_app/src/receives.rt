@@ -1,7 +1,8 @@
 //! Receives, looks at unexpected messages, and cancels (fi_msg(3), fi_tagged(3), fi_endpoint(3)).
 //!
-//! `source` is the index under which the sender stands in the address vector. It is ignored, and any sender matches, unless
-//! directed receives are granted (FI_DIRECTED_RECV): they are where the hints ask for nothing or for `Cap::DirectedRecv`.
+//! `source` is the index under which the sender stands in the address vector. It counts where directed receives are granted
+//! (FI_DIRECTED_RECV): that is where the hints ask for no capability at all, or for `Cap::DirectedRecv` among others. Where they are
+//! not granted it is ignored, and any sender matches.
 //!
 //! A buffer moves in with the call, and comes back in the completion, in the error or in the refusal. It stays with the
 //! endpoint until then, and is dropped with it.
@@ -9,9 +10,10 @@
 //! A call is refused by the first of these that applies: `NotSupported` where a capability was not granted; `MsgSize` where the
 //! buffer has more than `Info.message` bytes; `Invalid` where no address stands at index `source`, if it counts, where `least` is 0
 //! or above the buffer's length, or where a message is claimed under the context already; `NoEntry` where nothing is claimed under
-//! the context, or nothing is there to be cancelled; `Again(CqFull)` where an entry has no room that the call would write, or that
-//! has to come before it: of a message for a buffer for many; `Again(PostedFull)` where `Info.rx` receives are posted. A refused
-//! call changes nothing of what it was asked for, and may have given buffers for many the messages that were due.
+//! the context, or nothing is there to be cancelled; `Again(CqFull)` where the completion queue has no room for the entry that the
+//! call would write, or for those that have to come before it, of messages for a buffer for many; `Again(PostedFull)` where
+//! `Info.rx` receives are posted. A refused call does nothing of what it was asked for. Before it was refused it may have put
+//! messages that were due into buffers for many.
 ghost use Rattle.std.specs.Prelude.{◌≡◌, Some, None, true, false, OnOk, IfErr, IfSome, IfNone};
 ghost use Rattle.fab_base.specs.declared.entries.PeekHow.TheVariants.{Peek, Claim, Discard};
 ghost use Rattle.fab_model.specs.Calls.{TakeClaimed, DropClaimed, Cancel, CancelFirst, Look};

@@ -3,8 +3,9 @@
 //! A call is refused by the first of these that applies: `NotSupported` where a capability was not granted, `MsgSize` where there
 //! are more than `Info.message` bytes, or more than `Info.inject` that are copied, operand and compare together, or that an atomic
 //! brings back, `Invalid` where no address stands at index `dest`, or where an atomic is not of whole elements or has a form that
-//! its operation has not, `Again(TxFull)` where `Info.tx` operations are under way. A refused call changes nothing of what it was
-//! asked for, and may have posted what waited before it. What the peer refuses comes as an error: `NoKey`, `Access`, `Range`.
+//! its operation has not, `Again(TxFull)` where `Info.tx` operations are under way. A refused call does nothing of what it was
+//! asked for. Before it was refused it may have posted frames of earlier calls. What the peer refuses comes as an error: `NoKey`,
+//! `Access`, `Range`.
 ghost use Rattle.std.specs.Prelude.{◌≡◌, [], length, Some, None, true, false, OnOk, IfErr};
 ghost use Rattle.fab_base.specs.declared.items.Kind.TheVariants.{ReadReq, WriteReq};
 ghost use Rattle.fab_base.specs.declared.items.Form.TheVariants.{Base, Fetch, Compare};

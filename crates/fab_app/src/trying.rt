@@ -1,4 +1,5 @@
-//! Calls that are made again while they are refused for now. Whoever has something else to do makes them by hand.
+//! Calls that are made again while they are refused for now. A thread that has other work meanwhile makes the call itself once
+//! more.
 ghost use Rattle.std.specs.Prelude.{◌≡◌, Some, None, true, false, OnOk, IfErr};
 ghost use Rattle.fab_base.specs.declared.items.Kind.TheVariants.{Msg, TagMsg};
 ghost use Rattle.fab_model.specs.Calls.{message};

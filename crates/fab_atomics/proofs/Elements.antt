@@ -1,5 +1,5 @@
 -- The elements of a range are done one after another.
-use Rattle.std.proofs.Common.{◌≡◌, ℕ, zero, suc, ◌+◌, ◌-◌, ◌*◌, ◌/◌, ◌%◌, ◌<◌, ◌≤◌, List, [], ◌∷◌, ◌++◌, length, take, drop, refl, sym, ap, ◌∙◌, inl, inr, append_assoc, append-nil, length-append, arith}
+use Rattle.std.proofs.Common.{◌≡◌, ℕ, suc, ◌+◌, ◌-◌, ◌*◌, ◌/◌, ◌%◌, ◌<◌, ◌≤◌, List, [], ◌∷◌, ◌++◌, length, take, drop, refl, sym, ap, ◌∙◌, inl, inr, append_assoc, append-nil, length-append, arith}
 use Rattle.std.proofs.Math.Nat.{add-mul, div-add-mod', le-mul_of_pos_right, mul-le-mul_right}
 use Rattle.std.proofs.Math.Seq.{take-append_seam, drop-append_seam}
 use Rattle.std.proofs.lemmas.Bool.{cases_lt}
@@ -11,11 +11,8 @@ use Rattle.fab_base.specs.declared.items.Form.{Form}
 use Rattle.fab_base.specs.declared.items.Num.{Num}
 use Rattle.fab_base.specs.Elements.{element_size}
 use Rattle.fab_model.specs.Target.{element, elements, number_of, bytes_of}
+use Rattle.fab_model.proofs.Elements.{length-bytes_of, elements-none}
 use Rattle.fab_atomics.specs.Operands.{atom, number_at, element_at}
-
-length-bytes_of : (k n : ℕ) → length (bytes_of k n) ≡ k
-length-bytes_of zero n = refl
-length-bytes_of (suc k) n = let e = length-bytes_of k (n / 256) in omega (arith, e)
 
 -- a part of the first bytes is not touched by what comes behind these
 pub take-drop-front : (p size : ℕ) (before after other : List ℕ) → p + size ≤ length before → take size (drop p (before ++ after)) ≡ take size (drop p (before ++ other))
@@ -31,11 +28,6 @@ elements-some : (left : ℕ) (a : Atom) (old operand compares : List ℕ) → 0 
 unfolding elements
 elements-some left a [] operand compares some = absurd (omega arith)
 elements-some left a (t ∷ ts) operand compares some = refl
-
-elements-none : (left : ℕ) (a : Atom) (operand compares : List ℕ) → elements left a [] operand compares ≡ []
-unfolding elements
-elements-none zero a operand compares = refl
-elements-none (suc left) a operand compares = refl
 
 -- i elements of the range `old` are done and the others stand as they were
 pub record Done (op : AtomicOp) (num : Num) (old operand compares : List ℕ) (i : ℕ) (target : List ℕ) : Type 0 where

@@ -5,6 +5,7 @@ use Rattle.std.proofs.lemmas.List.Sums.{fold_more}
 use Rattle.fab_base.specs.declared.faults.Fault.TheVariants.{NoEntry}
 use Rattle.fab_base.specs.declared.peers.LineResult.{LineResult}
 use Rattle.fab_base.specs.declared.peers.LineResult.TheVariants.{Done, Refused, Index}
+use Rattle.fab_base.proofs.Options.{not_some as none_from}
 use Rattle.fab_model.specs.State.{State, lookup}
 use Rattle.fab_model.specs.Calls.{insert, insert_new, remove, is_peer, peer_named}
 use Rattle.fab_av.specs.Addresses.{Addresses, HasAddresses, with_addresses, inserting, insert_next}
@@ -46,10 +47,6 @@ pub insert-there : (s : State) (name : List ℕ) (k : ℕ) (index : Option ℕ) 
 unfolding at_place
 insert-there s name k None e stands there = cc
 insert-there s name k (Some i) e stands there = by_name s name (Some k) e ∙ by_place s k (Some i) stands
-
-pub none_from : (o : Option ℕ) → is_some o ≡ false → o ≡ None
-none_from None e = refl
-none_from (Some x) e = cc
 
 pub insert-full : (s : State) (name : List ℕ) (k : ℕ) → peer_named (length s.tx.sent) name ≡ Some k → is_some (position (is_peer k) s.av) ≡ false → 4_096 ≤ length s.av → insert s name ≡ (Index None, s)
 unfolding at_limit

@@ -1,17 +1,14 @@
 -- A vector in which each peer stands at the index of its number.
-use Rattle.std.proofs.Common.{◌≡◌, inl, inr, ℕ, zero, suc, ◌+◌, ◌<◌, ◌≤◌, List, [], ◌∷◌, ◌++◌, length, length-append, map, get_or, Option, Some, None, refl, sym, ap, ◌∙◌, arith}
+use Rattle.std.proofs.Common.{◌≡◌, inl, inr, ℕ, zero, suc, ◌+◌, ◌<◌, ◌≤◌, List, [], ◌∷◌, ◌++◌, length, map, get_or, Option, Some, None, sym, ap, ◌∙◌, arith}
 use Rattle.std.proofs.lemmas.Bool.{cases_lt}
 use Rattle.std.proofs.lemmas.List.{get_or_append_left, get_or_past, get_or_push, length-map, map-append}
 use Rattle.fab_model.specs.State.{lookup}
 use Rattle.fab_model.specs.Calls.{upto}
+use Rattle.fab_model.proofs.Elements.{length-upto}
 use Rattle.fab_av.specs.Addresses.{IsTable}
 
 abbrev all_of : ℕ → List (Option ℕ)
 all_of n = map Some (upto n)
-
-length-upto : (n : ℕ) → length (upto n) ≡ n
-length-upto zero = refl
-length-upto (suc n) = omega (arith, length-append (upto n) (n ∷ []), length-upto n)
 
 length-all : (n : ℕ) → length (all_of n) ≡ n
 length-all n = length-map (upto n) Some ∙ length-upto n

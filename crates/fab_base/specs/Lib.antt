@@ -3,3 +3,4 @@ pub mod Granted
 pub mod Offer
 pub mod Counts
 pub mod Replies
+pub mod Kinds

@@ -1,8 +1,11 @@
 //! Items: what one peer sends to another as a whole (fi_msg(3), fi_tagged(3), fi_rma(3), fi_atomic(3)).
 ghost use Rattle.std.specs.Prelude.{◌≡◌, ◌≤◌};
 ghost use Rattle.fab_base.specs.Elements.{element_size, is_of_form};
+ghost use Rattle.fab_base.specs.Kinds.{at_delivery, at_match, is_answered, is_base, is_message, is_read_only, is_tagged, refusal_of};
+ghost use Rattle.fab_base.specs.Replies.{at_either};
 
 use crate::buffers::Buf;
+use crate::entries::ErrKind;
 
 /// What an item is: a message, a request to the target's memory, or the reply to either.
 #[derive(Clone, Copy, Drop, Eq, PartialEq)]
@@ -21,6 +24,28 @@ pub enum Kind {
     Reply,
 }
 
+impl Kind {
+    /// Whether it is a tagged message.
+    pub fn is_tagged(self) -> bool
+        ensures { result ≡ is_tagged self }
+    {
+        match self {
+            Kind::TagMsg => true,
+            _ => false,
+        }
+    }
+
+    /// Whether it is a message.
+    pub fn is_message(self) -> bool
+        ensures { result ≡ is_message self }
+    {
+        match self {
+            Kind::Msg | Kind::TagMsg => true,
+            Kind::WriteReq | Kind::ReadReq | Kind::AtomicReq | Kind::Reply => false,
+        }
+    }
+}
+
 /// When the target owes a reply to a message: never, when it is delivered, or when a receive took it
 /// (FI_DELIVERY_COMPLETE, FI_MATCH_COMPLETE of fi_cq(3)).
 #[derive(Clone, Copy, Drop, Eq, PartialEq)]
@@ -30,6 +55,38 @@ pub enum Ack {
     Match,
 }
 
+impl Ack {
+    /// Whether a reply is due once the message is delivered.
+    pub fn at_delivery(self) -> bool
+        ensures { result ≡ at_delivery self }
+    {
+        match self {
+            Ack::Delivery => true,
+            Ack::Nothing | Ack::Match => false,
+        }
+    }
+
+    /// Whether a reply is due once a receive has taken the message.
+    pub fn at_match(self) -> bool
+        ensures { result ≡ at_match self }
+    {
+        match self {
+            Ack::Match => true,
+            Ack::Nothing | Ack::Delivery => false,
+        }
+    }
+
+    /// Whether a reply is due at either.
+    pub fn at_either(self) -> bool
+        ensures { result ≡ at_either self }
+    {
+        match self {
+            Ack::Delivery | Ack::Match => true,
+            Ack::Nothing => false,
+        }
+    }
+}
+
 /// What became of a request at its target.
 #[derive(Clone, Copy, Drop, Eq, PartialEq)]
 pub enum Outcome {
@@ -37,6 +94,20 @@ pub enum Outcome {
     BadKey,
     BadAccess,
     BadRange,
+}
+
+impl Outcome {
+    /// The error that tells it, and none where it is done.
+    pub fn refusal(self) -> Option<ErrKind>
+        ensures { result ≡ refusal_of self }
+    {
+        match self {
+            Outcome::Done => None,
+            Outcome::BadKey => Some(ErrKind::NoKey),
+            Outcome::BadAccess => Some(ErrKind::Access),
+            Outcome::BadRange => Some(ErrKind::Range),
+        }
+    }
 }
 
 /// The operation of an atomic, fi_atomic(3). Sums and products wrap; the logical ones give 1 or 0. The comparing ones have the compare
@@ -158,6 +229,45 @@ pub struct ItemHead {
     pub outcome: Outcome,
     /// How many bytes the item has.
     pub total: u32,
+}
+
+impl ItemHead {
+    /// Whether the atomic has no result.
+    pub fn is_base(&self) -> bool
+        ensures { result ≡ is_base self.now.atom }
+    {
+        match self.atom {
+            None => true,
+            Some(atom) => match atom.form {
+                Form::Base => true,
+                Form::Fetch | Form::Compare => false,
+            },
+        }
+    }
+
+    /// Whether the atomic changes nothing (FI_ATOMIC_READ).
+    pub fn is_read_only(&self) -> bool
+        ensures { result ≡ is_read_only self.now.atom }
+    {
+        match self.atom {
+            None => false,
+            Some(atom) => match atom.op {
+                AtomicOp::AtomicRead => true,
+                _ => false,
+            },
+        }
+    }
+
+    /// Whether the reply has bytes: that of a read, and of a fetching or comparing atomic.
+    pub fn is_answered(&self) -> bool
+        ensures { result ≡ is_answered self.now }
+    {
+        match self.kind {
+            Kind::ReadReq => true,
+            Kind::AtomicReq => !self.is_base(),
+            Kind::Msg | Kind::TagMsg | Kind::WriteReq | Kind::Reply => false,
+        }
+    }
 }
 
 /// An item with its bytes. Those of an atomic are the operand followed by the compare.

@@ -30,8 +30,8 @@ pub use items::{
     Access, Ack, Atom, AtomicOp, Form, Item, ItemHead, Kind, Num, Outcome, Sign, Want,
 };
 pub use limits::{
-    FILE_BYTES, FRAME_BYTES, INJECT_BYTES, Limits, MESSAGE_BYTES_ONE, MESSAGE_BYTES_TWO,
-    MOST_INDICES, MOST_OPERATIONS, SCRIPT_BYTES_ONE, SCRIPT_BYTES_TWO, Size,
+    FILE_BYTES, FRAME_BYTES, INJECT_BYTES, INLINE_BYTES, Limits, MESSAGE_BYTES_ONE,
+    MESSAGE_BYTES_TWO, MOST_INDICES, MOST_OPERATIONS, SCRIPT_BYTES_ONE, SCRIPT_BYTES_TWO, Size,
 };
 pub use operations::{Arrival, Coming, Held, Operation, Receive, Tally, Written};
 pub use peers::{Flags, Gate, Level, LineResult, Step};

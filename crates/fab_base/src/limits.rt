@@ -7,6 +7,9 @@ use crate::caps::{Api, Cap};
 /// How many bytes a frame has at most, and each slot of a pool.
 pub const FRAME_BYTES: u32 = 4_096;
 
+/// How many bytes a cell of a lane holds itself: a frame of at most so many needs no slot of a pool.
+pub const INLINE_BYTES: usize = 64;
+
 /// How many bytes a call that copies them may have at most (fi_inject of fi_msg(3)), and the operand and compare of
 /// an atomic together (fi_atomicvalid of fi_atomic(3)).
 pub const INJECT_BYTES: u32 = 4_096;

@@ -1,14 +1,10 @@
 -- Messages joined one after another, and the first bytes of what was joined.
-use Rattle.std.proofs.Common.{◌≡◌, ℕ, suc, ◌+◌, ◌-◌, ◌*◌, ◌<◌, ◌≤◌, min, List, [], ◌∷◌, ◌++◌, length, map, take, drop, get_or, slice_index_or, ap, ap₂, sym, ◌∙◌, arith, append-nil, append_assoc}
-use Rattle.std.proofs.lemmas.List.{drop_min, take_min, take_more}
-use Rattle.std.proofs.lemmas.List.Folds.{concat-append}
-use Rattle.std.specs.List.{concat, range_with_len}
+use Rattle.std.proofs.Common.{◌≡◌, ℕ, suc, ◌+◌, ◌-◌, ◌*◌, ◌≤◌, min, List, [], ◌++◌, length, map, take, drop, slice_index_or, ap, ap₂, sym, ◌∙◌, arith, append-nil, append_assoc}
+use Rattle.std.proofs.lemmas.List.{drop_min, take_min}
+use Rattle.std.specs.List.{range_with_len}
 use Rattle.fab_topology.specs.declared.kinds.Topology.{Topology}
 use Rattle.fab_topology.specs.Rounds.{distance}
 use Rattle.fab_collectives.specs.Routes.{heard_within}
-
-pub one_joined : (shares : List (List ℕ)) (k : ℕ) (d : List ℕ) → k < length shares → concat (take (k + 1) shares) ≡ concat (take k shares) ++ get_or shares k d
-one_joined shares k d lt = ap concat (take_more shares k d lt) ∙ concat-append (take k shares) (get_or shares k d ∷ []) ∙ ap (λ (xs : List ℕ). concat (take k shares) ++ xs) (append-nil (get_or shares k d))
 
 -- a number that is cut at no less than the length takes as much
 pub take_within : (n most : ℕ) (xs : List ℕ) → length xs ≤ most → take (min (min n most) (length xs)) xs ≡ take n xs

@@ -14,7 +14,7 @@ use Rattle.fab_collectives.specs.Offering.{awaited_after, brought, is_of, round_
 use Rattle.fab_collectives.specs.Routes.{hears_in, rounds_in, source_in, topology_of}
 
 -- where nothing is awaited, no message is
-none : (awaited : List Bool) (k : ℕ) → All (λ a. a ≡ false) awaited → get_or awaited k false ≡ false
+pub none : (awaited : List Bool) (k : ℕ) → All (λ a. a ≡ false) awaited → get_or awaited k false ≡ false
 none [] k all = refl
 none (a ∷ awaited) zero all = all zero false (omega arith)
 none (a ∷ awaited) (suc k) all = none awaited k (λ j d below. all (suc j) d (omega (arith, below)))

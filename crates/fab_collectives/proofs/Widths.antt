@@ -7,6 +7,7 @@ use Rattle.std.proofs.Math.Nat.{mul-div-le}
 use Rattle.fab_base.specs.declared.items.AtomicOp.{AtomicOp}
 use Rattle.fab_base.specs.declared.items.Num.{Num}
 use Rattle.fab_base.specs.declared.limits.TheConstants.{INJECT_BYTES}
+use Rattle.fab_base.proofs.Bools.{not_true as not-false}
 use Rattle.fab_fold.specs.declared.coll.Coll.{Coll}
 use Rattle.fab_fold.specs.declared.coll.Coll.TheVariants.{Barrier, Allgather, Allreduce}
 use Rattle.fab_topology.specs.declared.kinds.Topology.TheVariants.{Mesh, Dissemination}
@@ -14,10 +15,6 @@ use Rattle.fab_topology.specs.Rounds.{width}
 use Rattle.fab_collectives.specs.Routes.{is_doubled, topology_by, topology_of}
 use Rattle.fab_collectives.specs.declared.collective.Work.{Work}
 use Rattle.fab_collectives.specs.declared.routes.TheConstants.{DOUBLING_FROM}
-
-not-false : (b : Bool) → not b ≡ true → b ≡ false
-not-false true is = absurd (cc (is))
-not-false false is = refl
 
 -- by doubling all shares together have at most twice the bytes of an inject call
 pub small : (peers len : ℕ) → (not (nat_lt peers DOUBLING_FROM) && not (nat_lt (2 * INJECT_BYTES / peers) len)) ≡ true → peers * len ≤ 2 * INJECT_BYTES

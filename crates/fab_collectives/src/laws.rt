@@ -15,8 +15,8 @@ pub fn law_offered()
 /// that the contract of its source's `drive` names (`message_of`). What a rank makes of it is the `made` of `drive`.
 ///
 /// - `folded`: of an allgather and an allreduce it is the fold of all shares in order of ranks, where all shares have one length;
-/// - `relayed`: of a broadcast it is the root's share, also where it came over other ranks. Each of them told of what it had by then: all
-///   that it heard in the rounds that this one waits for, and of the others that or nothing yet.
+/// - `relayed`: of a broadcast it is the root's share, also where it came over other ranks. A rank that passes it on makes its message of
+///   what it has heard by then: all of the rounds that the message waits for, and maybe some of others.
 pub fn law_folded()
     ensures folded { EachIsFolded }
     ensures relayed { EachIsTheRoots }

@@ -1,7 +1,7 @@
 //! What the command `window` writes, and its words.
 use crate::meeting::Meeting;
 use fab_base::{NoMemory, Text};
-use fab_window_run::{window_of, window_text};
+use fab_command_runs::{window_of, window_text};
 use std::alloc::Global;
 use std::thread::Threads;
 

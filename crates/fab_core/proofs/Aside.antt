@@ -7,7 +7,7 @@ use Rattle.fab_base.specs.declared.entries.PeekHow.TheVariants.{Peek, Claim, Dis
 use Rattle.fab_base.specs.declared.items.Want.{Want}
 use Rattle.fab_base.specs.declared.operations.Arrival.{Arrival}
 use Rattle.fab_base.specs.declared.operations.Receive.{Receive}
-use Rattle.fab_model.specs.Complete.{at_match}
+use Rattle.fab_base.specs.Kinds.{at_match}
 use Rattle.fab_model.specs.Matching.{takes}
 use Rattle.fab_model.specs.State.{coming_from}
 use Rattle.fab_rx.specs.Arriving.{Arriving, IsArriving, begun_of}
@@ -19,8 +19,8 @@ use Rattle.fab_rx.specs.declared.results.Posted.TheVariants.{Whole}
 use Rattle.fab_rx.specs.declared.results.Seen.{Seen}
 use Rattle.fab_tx.specs.Transit.{IsTransit, Transit}
 use Rattle.fab_core.specs.Parts.{IsFitting, IsTogether, Parts}
-use Rattle.fab_ends.specs.Ends.{booked}
-use Rattle.fab_orders.specs.Looks.{is_due_now, looked, parted, parted_by}
+use Rattle.fab_settling.specs.Ends.{booked}
+use Rattle.fab_settling.specs.Looks.{is_due_now, looked, parted, parted_by}
 use Rattle.fab_core.specs.Looks.{claim_receive}
 use Rattle.fab_core.proofs.Departing.{Leaves, discard_leaves, drop_leaves, left_room, left_together, owed_claimed, take_leaves}
 use Rattle.fab_core.proofs.Handed.{posted_whole}

@@ -1,7 +1,7 @@
 -- Requests: why they are refused, and that they are the machine's.
 use Rattle.std.proofs.Common.{◌≡◌, ℕ, ◌+◌, ◌%◌, ◌<◌, ◌≤◌, Bool, true, false, not, ◌&&◌, ◌||◌, ◌==◌, List, [], ◌∷◌, length, Option, Some, None, refl, sym, ap, ◌∙◌, subst, arith}
 use Rattle.std.specs.Prelude.{is_none, min, nat_le, IfSome, IfNone, IfErr, Result, Err}
-use Rattle.std.proofs.lemmas.Bool.{eqb-true, leb-false, ltb-false}
+use Rattle.std.proofs.lemmas.Bool.{eqb-true, leb-false, ltb-false, or_parts as both_false}
 use Rattle.fab_base.specs.Elements.{element_size, is_of_form}
 use Rattle.fab_base.specs.declared.faults.Fault.{Fault}
 use Rattle.fab_base.specs.declared.faults.Fault.TheVariants.{NotSupported, MsgSize, Invalid, NoEntry}
@@ -12,9 +12,9 @@ use Rattle.fab_base.specs.declared.items.Form.TheVariants.{Base, Fetch, Compare}
 use Rattle.fab_base.specs.declared.items.Kind.{Kind}
 use Rattle.fab_base.specs.declared.items.Kind.TheVariants.{Msg, TagMsg, WriteReq, ReadReq, AtomicReq, Reply}
 use Rattle.fab_base.specs.declared.peers.LineResult.TheVariants.{Done, Refused}
-use Rattle.fab_wire.specs.Frames.{IsSound, operand_bytes, compare_bytes}
+use Rattle.fab_link.specs.Frames.{IsSound, operand_bytes, compare_bytes}
 use Rattle.fab_base.specs.Replies.{is_reply}
-use Rattle.fab_model.specs.Matching.{is_message}
+use Rattle.fab_base.specs.Kinds.{is_message}
 use Rattle.fab_model.specs.State.{State, in_use, lookup}
 use Rattle.fab_model.specs.Sending.{Order, first_fault, head_of, is_granted, is_too_long, is_well_formed, most_bytes, transmit, transmit_to}
 use Rattle.fab_model.specs.Calls.{Transmit, do_call}
@@ -28,7 +28,7 @@ use Rattle.fab_core.proofs.Made.{none_made}
 use Rattle.fab_core.specs.Parts.{Parts, held_of, state_of}
 use Rattle.fab_core.specs.Asking.{accepted_as}
 use Rattle.fab_core.specs.Doing.{lasting_transmit}
-use Rattle.fab_core.proofs.Calling.{not_lasting, transmit_done, transmit_final, transmit_passing, transmit_refused}
+use Rattle.fab_core.proofs.Calling.{not_lasting, three, transmit_done, transmit_final, transmit_passing, transmit_refused}
 
 -- ---- refusals
 
@@ -73,22 +73,11 @@ asks p t o q there granted room is =
 
 -- ---- the tests that a call passed that is not refused for good
 
-three : (a b c : Bool) → first_fault ((a, NotSupported) ∷ (b, MsgSize) ∷ (c, Invalid) ∷ []) ≡ None → (b ≡ false) × (c ≡ false)
-three true b c e = absurd (cc)
-three false true c e = absurd (cc)
-three false false true e = absurd (cc)
-three false false false e = (refl, refl)
-
 or_false : (a b c : Bool) → (a || b || not c) ≡ false → (a ≡ false) × (b ≡ false) × (c ≡ true)
 or_false true b c e = absurd (cc)
 or_false false true c e = absurd (cc)
 or_false false false false e = absurd (cc)
 or_false false false true e = (refl, refl, refl)
-
-both_false : (a b : Bool) → (a || b) ≡ false → (a ≡ false) × (b ≡ false)
-both_false true b e = absurd (cc)
-both_false false true e = absurd (cc)
-both_false false false e = (refl, refl)
 
 most_in_word : (most : ℕ) (kind : Kind) (injected : Bool) → most < 4_294_967_296 → most_bytes most kind injected < 4_294_967_296
 most_in_word most AtomicReq true word = omega (arith, word)

@@ -7,7 +7,7 @@ use Rattle.fab_rx.specs.Arriving.{Arriving, IsArriving, arriving, begun_of, bare
 use Rattle.fab_tx.specs.Transit.{Transit, with_room}
 use Rattle.fab_rma.specs.Serving.{Serving}
 use Rattle.fab_core.specs.Parts.{IsTogether, Parts}
-use Rattle.fab_orders.specs.Orders.{asks}
+use Rattle.fab_settling.specs.Orders.{asks}
 use Rattle.fab_core.specs.Doing.{with_arriving, with_transit}
 use Rattle.fab_core.proofs.Together.{together_arrived, together_roomed}
 use Rattle.fab_core.specs.Requests.{IsAwaited, IsServing}

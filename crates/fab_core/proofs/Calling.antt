@@ -10,7 +10,8 @@ use Rattle.fab_base.specs.declared.peers.LineResult.TheVariants.{Done, Refused}
 use Rattle.fab_base.specs.declared.items.Want.{Want}
 use Rattle.fab_base.specs.declared.operations.Arrival.{Arrival}
 use Rattle.fab_base.specs.declared.operations.Receive.{Receive}
-use Rattle.fab_model.specs.Complete.{at_match}
+use Rattle.fab_base.proofs.Bools.{or_false_left as either_false}
+use Rattle.fab_base.specs.Kinds.{at_match}
 use Rattle.fab_model.specs.Matching.{takes}
 use Rattle.fab_model.specs.State.{State, fits, in_use, lookup}
 use Rattle.fab_model.specs.Receiving.{Posting, cancel, cancel_fault, cancellable, draw_due, lacks_room, least_is_wrong, may_receive, post, post_fault, receive_of, source_is_known, taken_by}
@@ -25,7 +26,7 @@ use Rattle.fab_face.specs.declared.machine.Ask.{Ask}
 use Rattle.fab_face.specs.declared.machine.Message.{Message}
 use Rattle.fab_core.specs.Parts.{Parts, held_of, state_of}
 use Rattle.fab_core.specs.Doing.{accepted_by, lasting_post, lasting_transmit, left_by, posted_by}
-use Rattle.fab_orders.specs.Orders.{most_of, order_of, posting_of, wanted}
+use Rattle.fab_settling.specs.Orders.{most_of, order_of, posting_of, wanted}
 use Rattle.fab_core.specs.Passing.{is_held, passing, passing_post}
 use Rattle.fab_core.proofs.Doing.{accepted_is, left_is, posted_is}
 use Rattle.fab_core.proofs.Made.{none_made}
@@ -102,16 +103,17 @@ sends p t m bytes q there granted room is =
     to_peer : transmit (state_of p) (order_of m bytes) ≡ transmit_to t (state_of p) (order_of m bytes)
     to_peer = rw (transmit, there) refl
 
+-- a call with no fault has neither of the last two of its three reasons
+pub three : (a b c : Bool) → first_fault ((a, NotSupported) ∷ (b, MsgSize) ∷ (c, Invalid) ∷ []) ≡ None → (b ≡ false) × (c ≡ false)
+three true b c e = absurd (cc)
+three false true c e = absurd (cc)
+three false false true e = absurd (cc)
+three false false false e = (refl, refl)
+
 -- the tests that a message passed that is not refused for good
 module _ (p : Parts) (m : Message) (bytes : List ℕ) (granted : is_final (do_call (state_of p) (sending m bytes)).0 ≡ false) where
   none_lasting : lasting_transmit (state_of p) (order_of m bytes) ≡ None
   none_lasting = not_lasting (state_of p) (order_of m bytes) granted
-
-  three : (a b c : Bool) → first_fault ((a, NotSupported) ∷ (b, MsgSize) ∷ (c, Invalid) ∷ []) ≡ None → (b ≡ false) × (c ≡ false)
-  three true b c e = absurd (cc)
-  three false true c e = absurd (cc)
-  three false false true e = absurd (cc)
-  three false false false e = (refl, refl)
 
   passed : (is_too_long p.most_message (order_of m bytes) ≡ false) × ((is_none (lookup p.av.indices m.dest) || nat_le 4_611_686_018_427_387_904 p.tx.tx.ops || false) ≡ false)
   passed = three (not (is_granted p.caps (order_of m bytes).kind None)) (is_too_long p.most_message (order_of m bytes)) (is_none (lookup p.av.indices m.dest) || nat_le 4_611_686_018_427_387_904 p.tx.tx.ops || false) none_lasting
@@ -120,10 +122,6 @@ module _ (p : Parts) (m : Message) (bytes : List ℕ) (granted : is_final (do_ca
   or_false true b c e = absurd (cc)
   or_false false true c e = absurd (cc)
   or_false false false c e = (refl, refl)
-
-  either_false : (a b : Bool) → (a || b) ≡ false → a ≡ false
-  either_false true b e = absurd (cc)
-  either_false false b e = refl
 
   -- its peer stands in the address vector
   pub stands : (r : Result ℕ Fault) (why : Fault) → IfErr r (λ fault. (fault ≡ NoEntry) × (lookup p.av.indices m.dest ≡ None)) → r ≡ Err why → ⊥

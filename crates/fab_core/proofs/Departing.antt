@@ -11,8 +11,9 @@ use Rattle.fab_base.specs.declared.operations.Arrival.{Arrival}
 use Rattle.fab_base.specs.declared.operations.Coming.{Coming}
 use Rattle.fab_base.specs.declared.operations.Coming.TheVariants.{Into, Keep, Throw}
 use Rattle.fab_base.specs.declared.operations.Receive.{Receive}
-use Rattle.fab_model.specs.Complete.{at_delivery, at_match}
+use Rattle.fab_base.specs.Kinds.{at_delivery, at_match}
 use Rattle.fab_base.specs.Replies.{at_either}
+use Rattle.fab_base.proofs.Lists.{some_within as in_row}
 use Rattle.fab_model.specs.Matching.{remove_first, takes}
 use Rattle.fab_model.specs.State.{Receiving, coming_from}
 use Rattle.fab_model.specs.Receiving.{without_claim, without_first}
@@ -22,9 +23,9 @@ use Rattle.fab_rx.specs.Stored.{turned}
 use Rattle.fab_tx.specs.Transit.{Transit}
 use Rattle.fab_face.specs.Owed.{is_due}
 use Rattle.fab_core.specs.Parts.{IsFitting, IsTogether, Parts, bit, count_of, due_for, is_owed, is_owed_aside, owed}
-use Rattle.fab_ends.specs.Ends.{booked}
-use Rattle.fab_orders.specs.Looks.{is_due_now}
-use Rattle.fab_core.proofs.Owing.{count_last, count_without, either_is, in_row}
+use Rattle.fab_settling.specs.Ends.{booked}
+use Rattle.fab_settling.specs.Looks.{is_due_now}
+use Rattle.fab_core.proofs.Owing.{count_last, count_without, either_is}
 use Rattle.fab_core.proofs.Together.{booked_rooms, sent_booked, together_with}
 
 -- what still comes of a message goes to no other place than these

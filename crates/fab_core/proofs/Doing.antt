@@ -13,13 +13,16 @@ use Rattle.fab_base.specs.declared.operations.Coming.TheVariants.{Into, Keep, Th
 use Rattle.fab_base.specs.declared.operations.Operation.{Operation}
 use Rattle.fab_base.specs.declared.operations.Receive.{Receive}
 use Rattle.fab_base.specs.declared.peers.Level.{Level}
-use Rattle.fab_model.specs.Matching.{is_message, remove_first, takes}
+use Rattle.fab_model.specs.Matching.{remove_first, takes}
+use Rattle.fab_base.specs.Kinds.{at_delivery, at_match, is_message, refusal_of}
 use Rattle.fab_model.specs.State.{State, Transmitting, awaits, coming_from, under_way}
-use Rattle.fab_model.specs.Complete.{at_delivery, at_match, book, fill, filling, fill_multi, is_made_by, let_go, release, release_multi, reply}
+use Rattle.fab_model.specs.Complete.{book, fill, filling, fill_multi, is_made_by, let_go, release, release_multi, reply}
 use Rattle.fab_base.specs.Replies.{at_either}
+use Rattle.fab_base.proofs.Bools.{not_true, and_true_right as and_right_true, and_true_left as and_left_true}
 use Rattle.fab_model.specs.Receiving.{cancel, cancellable, give, post, without_first}
-use Rattle.fab_model.specs.Sending.{answering, do_answer, do_sent, end_with, ending, expects, going_on, is_answered_by, refusal_of, success_of, transmit_to, transmitting}
+use Rattle.fab_model.specs.Sending.{answering, do_answer, do_sent, end_with, ending, expects, going_on, is_answered_by, success_of, transmit_to, transmitting}
 use Rattle.fab_model.specs.Arrivals.{do_head, do_tail, keeping, made_whole, tail_to}
+use Rattle.fab_model.proofs.Firsts.{not_found as without_none}
 use Rattle.fab_rx.specs.Arriving.{begun_of, shared, with_receiving, without_closed}
 use Rattle.fab_rx.specs.Leaving.{is_meant}
 use Rattle.fab_rx.specs.Results.{closed_by, closed_if, completed}
@@ -29,24 +32,10 @@ use Rattle.fab_tx.proofs.Answering.{answered_none, answered_some}
 use Rattle.fab_face.specs.declared.machine.Ask.{Ask}
 use Rattle.fab_face.specs.declared.machine.Message.{Message}
 use Rattle.fab_core.specs.Parts.{IsFitting, Parts, state_of}
-use Rattle.fab_ends.specs.Ends.{booked, entry_at_end}
+use Rattle.fab_settling.specs.Ends.{booked, entry_at_end}
 use Rattle.fab_core.specs.Doing.{accepted_by, answered, called, ending_by, heading, left_by, let_back, posted_by, received, receive_now, sent, tail, with_arriving, with_transit}
-use Rattle.fab_orders.specs.Orders.{order_of, posting_of, wanted}
+use Rattle.fab_settling.specs.Orders.{order_of, posting_of, wanted}
 use Rattle.fab_core.proofs.Serves.{requested_is}
-
--- ---- tests
-
-and_left_true : (a b : Bool) → (a && b) ≡ true → a ≡ true
-and_left_true true b e = refl
-and_left_true false b e = absurd (cc)
-
-and_right_true : (a b : Bool) → (a && b) ≡ true → b ≡ true
-and_right_true true b e = e
-and_right_true false b e = absurd (cc)
-
-not_true : (a : Bool) → not a ≡ true → a ≡ false
-not_true true e = absurd (cc)
-not_true false e = refl
 
 -- ---- replies
 
@@ -95,14 +84,6 @@ module _ (outcome : Outcome) (bytes : List ℕ) (o : Operation) (ends : Ends out
       by (Some kind) is = bad kind is
 
 module _ {X : Type 0} (test : X → Bool) where
-  without_step : (x : X) (xs : List X) (b : Bool) → test x ≡ b → cond b (Some x) (find test xs) ≡ None → (find test xs ≡ None → remove_first test xs ≡ xs) → remove_first test (x ∷ xs) ≡ x ∷ xs
-  without_step x xs true is e more = absurd (cc)
-  without_step x xs false is e more = rw (is, remove_first) (ap (λ ys. x ∷ ys) (more e))
-
-  pub without_none : (xs : List X) → find test xs ≡ None → remove_first test xs ≡ xs
-  without_none [] e = refl
-  without_none (x ∷ xs) e = without_step x xs (test x) refl e (without_none xs)
-
   passes_step : (y : X) (ys : List X) (x : X) (b : Bool) → test y ≡ b → cond b (Some y) (find test ys) ≡ Some x → (find test ys ≡ Some x → test x ≡ true) → test x ≡ true
   passes_step y ys x true is e more = (let same : y ≡ x = cc in sym (ap test same) ∙ is)
   passes_step y ys x false is e more = more e

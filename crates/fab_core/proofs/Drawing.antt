@@ -1,7 +1,7 @@
 -- A draw is the machine's, and leaves the parts together.
-use Rattle.std.proofs.Common.{◌≡◌, ℕ, ◌+◌, ◌-◌, ◌<◌, ◌≤◌, ◌&&◌, Bool, true, false, List, length, length-set, get_or-set_same, Option, Some, None, refl, sym, ap, ◌∙◌, arith}
-use Rattle.std.specs.Prelude.{◌==◌, find, is_some, nat_le, slice_index, slice_set}
-use Rattle.std.proofs.lemmas.Bool.{eq-eqb}
+use Rattle.std.proofs.Common.{◌≡◌, ℕ, ◌+◌, ◌-◌, ◌<◌, ◌≤◌, Bool, true, false, List, length, length-set, get_or-set_same, Option, Some, None, refl, sym, ap, ◌∙◌, arith}
+use Rattle.std.specs.Prelude.{find, nat_le, slice_index, slice_set}
+use Rattle.std.proofs.lemmas.Bool.{and_parts as and_two}
 use Rattle.std.specs.List.{list_any}
 use Rattle.std.specs.Option.{option_map}
 use Rattle.fab_base.specs.declared.items.ItemHead.{ItemHead}
@@ -9,9 +9,13 @@ use Rattle.fab_base.specs.declared.operations.Arrival.{Arrival}
 use Rattle.fab_base.specs.declared.operations.Coming.TheVariants.{Into, Keep}
 use Rattle.fab_base.specs.declared.operations.Receive.{Receive}
 use Rattle.std.proofs.lemmas.List.Folds.{list_any_at}
+use Rattle.fab_base.proofs.Numbers.{same_number as same_eq}
+use Rattle.fab_base.proofs.Options.{some_there as least_there}
+use Rattle.fab_base.proofs.Lists.{some_within as in_row}
 use Rattle.fab_model.proofs.Firsts.{list_any-not_found}
 use Rattle.fab_model.specs.Arrivals.{do_draw}
-use Rattle.fab_model.specs.Complete.{at_match, filling, is_made_by, release, release_multi}
+use Rattle.fab_model.specs.Complete.{filling, is_made_by, release, release_multi}
+use Rattle.fab_base.specs.Kinds.{at_match}
 use Rattle.fab_model.specs.Matching.{remove_first, takes}
 use Rattle.fab_model.specs.Receiving.{draw_due, draws, give, goes}
 use Rattle.fab_model.specs.State.{State, coming_from, fits, is_into, under_way}
@@ -30,16 +34,15 @@ use Rattle.fab_tx.specs.Transit.{IsTransit}
 use Rattle.fab_face.specs.Acts.{Drew, Goes}
 use Rattle.fab_face.specs.Machine.{StayNext}
 use Rattle.fab_core.specs.Parts.{IsTogether, Parts, held_of, state_of}
-use Rattle.fab_ends.specs.Ends.{booked}
+use Rattle.fab_settling.specs.Ends.{booked}
 use Rattle.fab_core.specs.Doing.{let_back, received, with_arriving}
 use Rattle.fab_core.specs.Draws.{call_drawn, drew, drew_as}
-use Rattle.fab_orders.specs.Looks.{is_due_now}
+use Rattle.fab_settling.specs.Looks.{is_due_now}
 use Rattle.fab_core.proofs.Departing.{Leaves, count_found, into_way, left_by, left_room, left_together, partly_found}
 use Rattle.fab_core.proofs.Doing.{completed_is, is_released, passes}
 use Rattle.fab_core.proofs.Fits.{fits_writing, fits_two}
 use Rattle.fab_core.proofs.Handed.{back_call_if}
 use Rattle.fab_core.proofs.Next.{booked_next, booked_places}
-use Rattle.fab_core.proofs.Owing.{in_row}
 
 -- ---- who draws what
 
@@ -50,14 +53,6 @@ module _ {X : Type 0} (test : X → Bool) (xs : List X) (due : list_any test xs 
       by : (o : Option X) → find test xs ≡ o → (x : X) × (find test xs ≡ Some x)
       by None e = absurd (let no : list_any test xs ≡ false = list_any-not_found test xs e in cc)
       by (Some x) e = (x, e)
-
-and_two : (a b : Bool) → (a && b) ≡ true → (a ≡ true) × (b ≡ true)
-and_two true b e = (refl, e)
-and_two false b e = absurd (cc)
-
-least_there : (o : Option ℕ) → is_some o ≡ true → (least : ℕ) × (o ≡ Some least)
-least_there None e = absurd (cc)
-least_there (Some least) e = (least, refl)
 
 -- the receive, and the message that it takes
 pub record IsDrawn (v : Arriving) : Type 0 where
@@ -77,9 +72,6 @@ who_draws v due =
     record { r = first.0; first = first.1; a = message.0; found = message.1; least = least.0; multi = least.1 }
 
 -- ---- the rest of a message goes on into the receive
-
-same_eq : (n : ℕ) → (n == n) ≡ true
-same_eq n = eq-eqb n n refl
 
 busy_stays : (r : Receive) (s : State) (least : ℕ) → r.least ≡ Some least → under_way s.rx r.call ≡ true → release r s ≡ s
 unfolding release_multi

@@ -1,7 +1,7 @@
 -- A frame comes in: what it makes of the parts is what the machine does.
 use Rattle.std.proofs.Common.{◌≡◌, ◌≢◌, inr, ℕ, ◌+◌, ◌-◌, ◌<◌, ◌≤◌, ◌==◌, Bool, true, false, not, ◌&&◌, ◌||◌, List, [], ◌∷◌, ◌++◌, length, length-append, Option, Some, None, get_or, get_or-set_same, refl, sym, ap, ◌∙◌, subst, arith}
 use Rattle.std.specs.Prelude.{find, IfSome, IsSomeAnd, is_some, min, slice_index, slice_set}
-use Rattle.std.proofs.lemmas.Bool.{eqb-true, eqb-false}
+use Rattle.std.proofs.lemmas.Bool.{eqb-true, eqb-false, or_parts as or_neither}
 use Rattle.std.proofs.lemmas.List.{set-set}
 use Rattle.fab_base.specs.declared.frames.Frame.{Frame}
 use Rattle.fab_base.specs.declared.frames.FrameHead.{FrameHead}
@@ -12,9 +12,10 @@ use Rattle.fab_base.specs.declared.items.Kind.TheVariants.{Msg, TagMsg, WriteReq
 use Rattle.fab_base.specs.declared.operations.Coming.{Coming}
 use Rattle.fab_base.specs.declared.operations.Coming.TheVariants.{Into, Keep, Throw, Request, Answer}
 use Rattle.fab_base.specs.declared.operations.Receive.{Receive}
-use Rattle.fab_wire.specs.Joined.{grown, is_last}
+use Rattle.fab_link.specs.Joined.{grown, is_last}
 use Rattle.fab_model.specs.Complete.{fill_multi, filled, filling, is_made_by}
-use Rattle.fab_model.specs.Matching.{change_first, is_message}
+use Rattle.fab_model.specs.Matching.{change_first}
+use Rattle.fab_base.specs.Kinds.{is_message}
 use Rattle.fab_model.specs.State.{State, Receiving, Transmitting, coming_from, fits, raise, Region, under_way}
 use Rattle.fab_model.specs.Receiving.{draw_due}
 use Rattle.fab_model.specs.Arrivals.{do_tail, heading_message, heading_other, made_whole, taker, way_of}
@@ -27,14 +28,14 @@ use Rattle.fab_face.specs.Answers.{FrameLacks}
 use Rattle.fab_face.specs.Machine.{IsNext, StayNext}
 use Rattle.fab_rma.specs.Serving.{is_request, outcome_at}
 use Rattle.fab_core.specs.Parts.{IsFitting, IsTogether, Parts, held_of, state_of}
-use Rattle.fab_ends.specs.Ends.{answer_writes}
+use Rattle.fab_settling.specs.Ends.{answer_writes}
 use Rattle.fab_core.specs.Doing.{arrived, fed, lacks_at_tail, tail, writes_at_tail}
 use Rattle.fab_core.proofs.Doing.{heading_is, tail_is}
 use Rattle.fab_base.specs.Replies.{is_reply}
+use Rattle.fab_rx.proofs.Growing.{item_there}
 use Rattle.fab_core.proofs.Fits.{fits_tail}
-use Rattle.fab_core.proofs.Steady.{item_there}
 use Rattle.fab_core.proofs.Together.{fitting_arrived}
-use Rattle.fab_ends.specs.Served.{writes_data}
+use Rattle.fab_settling.specs.Served.{writes_data}
 
 -- ---- a first frame, or another one
 
@@ -282,10 +283,6 @@ not_both : (a b : Bool) → (a && not b) ≡ false → a ≡ true → b ≡ true
 not_both true true e is = refl
 not_both true false e is = absurd (cc)
 not_both false b e is = absurd (cc)
-
-or_neither : (a b : Bool) → (a || b) ≡ false → (a ≡ false) × (b ≡ false)
-or_neither true b e = absurd (cc)
-or_neither false b e = (refl, e)
 
 not_either : (a b : Bool) → (not a && b) ≡ false → b ≡ true → a ≡ true
 not_either true b e is = refl

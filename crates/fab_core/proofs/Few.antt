@@ -10,12 +10,12 @@ use Rattle.fab_base.specs.declared.operations.Receive.{Receive}
 use Rattle.fab_base.specs.declared.operations.Written.{Written}
 use Rattle.fab_model.specs.Matching.{remove_first}
 use Rattle.fab_rx.specs.Opened.{sized}
-use Rattle.fab_ends.specs.declared.places.Place.{Place}
-use Rattle.fab_ends.specs.declared.places.Place.TheVariants.{Open, Ended}
-use Rattle.fab_ends.specs.Ends.{unread_of}
+use Rattle.fab_settling.specs.declared.places.Place.{Place}
+use Rattle.fab_settling.specs.declared.places.Place.TheVariants.{Open, Ended}
+use Rattle.fab_settling.specs.Ends.{unread_of}
 use Rattle.fab_core.specs.Parts.{Parts}
 use Rattle.fab_core.specs.Lent.{AreOthers, AreSingle, HasPlaces, IsAt, IsLentBy, IsPlaced}
-use Rattle.fab_ends.proofs.Listing.{contains_cases, contains_here, contains_kept, contains_later}
+use Rattle.fab_settling.proofs.Listing.{contains_cases, contains_here, contains_kept, contains_later}
 use Rattle.fab_core.proofs.Placing.{zip_there}
 
 others_there : (call : ℕ) (ms : List (ℕ × ℕ)) → AreOthers call ms → (m : ℕ × ℕ) → Contains ms m → m.1 ≢ call

@@ -11,7 +11,8 @@ use Rattle.fab_base.specs.declared.operations.Coming.{Coming}
 use Rattle.fab_base.specs.declared.operations.Coming.TheVariants.{Into, Keep, Throw, Request, Answer}
 use Rattle.fab_base.specs.declared.operations.Operation.{Operation}
 use Rattle.fab_model.specs.State.{Completions, State, coming_from, fits, writing}
-use Rattle.fab_model.specs.Sending.{do_sent, ending, refusal_of}
+use Rattle.fab_model.specs.Sending.{do_sent, ending}
+use Rattle.fab_base.specs.Kinds.{refusal_of}
 use Rattle.fab_cq.specs.Queues.{has_room}
 use Rattle.fab_base.specs.declared.operations.Receive.{Receive}
 use Rattle.fab_model.specs.Arrivals.{made_whole}
@@ -22,9 +23,9 @@ use Rattle.fab_tx.specs.declared.results.Ended.{Ended}
 use Rattle.fab_rma.specs.Serving.{outcome_at}
 use Rattle.fab_core.specs.Parts.{Parts, state_of}
 use Rattle.fab_core.proofs.Doing.{sent_is}
-use Rattle.fab_ends.specs.Ends.{answer_writes, cq_after, entry_at_end, writes_end, written_if}
+use Rattle.fab_settling.specs.Ends.{answer_writes, cq_after, entry_at_end, writes_end, written_if}
 use Rattle.fab_core.specs.Doing.{answered, lacks_at_tail, sent, tail, whole, with_arriving, writes_at_tail}
-use Rattle.fab_ends.specs.Served.{data_of}
+use Rattle.fab_settling.specs.Served.{data_of}
 use Rattle.fab_core.proofs.Serves.{writes_told}
 
 -- an end writes a completion unless it is silent and a success

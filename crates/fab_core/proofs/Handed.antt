@@ -7,7 +7,8 @@ use Rattle.fab_base.specs.declared.entries.Entry.TheVariants.{Released as GivenB
 use Rattle.fab_base.specs.declared.entries.Taken.TheVariants.{Success}
 use Rattle.fab_base.specs.declared.items.Want.{Want}
 use Rattle.fab_base.specs.declared.operations.Tally.{Tally}
-use Rattle.fab_model.specs.Complete.{at_delivery, at_match, entry_of, filling, has_space, is_made_by}
+use Rattle.fab_model.specs.Complete.{entry_of, filling, has_space, is_made_by}
+use Rattle.fab_base.specs.Kinds.{at_delivery, at_match}
 use Rattle.fab_base.specs.Replies.{at_either}
 use Rattle.fab_model.specs.Matching.{takes}
 use Rattle.fab_base.specs.declared.items.Item.{Item}
@@ -29,17 +30,17 @@ use Rattle.fab_rx.specs.declared.results.Posted.{Posted}
 use Rattle.fab_rx.specs.declared.results.Posted.TheVariants.{GoesOn, Whole}
 use Rattle.fab_tx.specs.Transit.{IsTransit, Transit, answered_by, finds_answered, booking}
 use Rattle.fab_rma.specs.Serving.{Serving, is_request, outcome_at, room_for}
-use Rattle.fab_wire.specs.Frames.{IsSound}
+use Rattle.fab_link.specs.Frames.{IsSound}
 use Rattle.fab_model.specs.Target.{perform}
 use Rattle.fab_face.specs.Owed.{is_due}
 use Rattle.fab_core.specs.Parts.{IsFitting, IsTogether, Parts, state_of}
-use Rattle.fab_ends.specs.Members.{let_go}
-use Rattle.fab_ends.specs.Ends.{booked, counters_after, cq_after, unread_of, written_if}
+use Rattle.fab_settling.specs.Members.{let_go}
+use Rattle.fab_settling.specs.Ends.{booked, counters_after, cq_after, unread_of, written_if}
 use Rattle.fab_core.specs.Doing.{receive_now, tail}
 use Rattle.fab_core.proofs.Doing.{passes, tail_is}
 use Rattle.fab_core.proofs.Next.{IsLeft, tail_left, tail_next}
 use Rattle.fab_core.proofs.Together.{book_room, match_room, most_booked, size_after, together_answered, together_booked, together_given, together_posted, size_written, together_requested}
-use Rattle.fab_ends.specs.Served.{counted, data_of, reply_of, served}
+use Rattle.fab_settling.specs.Served.{counted, data_of, reply_of, served}
 use Rattle.fab_core.specs.Requests.{IsAwaited, IsServing}
 
 pub ended_received : (c : Option Coming) (source : ℕ) (item : Item) (x : Completed) → ended c source item ≡ Received x → (r : Receive) × (place : ℕ) × (c ≡ Some (Into r place)) × (x ≡ completed r place source item.head item.bytes)

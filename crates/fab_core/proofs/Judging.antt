@@ -23,7 +23,7 @@ use Rattle.fab_face.specs.Machine.{StayNext}
 use Rattle.fab_face.specs.declared.looking.Look.{Look}
 use Rattle.fab_core.specs.Parts.{Parts, held_of, state_of}
 use Rattle.fab_core.specs.Passing.{is_held}
-use Rattle.fab_orders.specs.Orders.{look_want}
+use Rattle.fab_settling.specs.Orders.{look_want}
 use Rattle.fab_core.specs.Looks.{dropped_by, is_held_take, lasting_claimed, lasting_look, looked_by, taken_by}
 use Rattle.fab_core.proofs.Made.{none_made}
 use Rattle.fab_core.proofs.Fits.{fits_writing}
@@ -96,16 +96,6 @@ both r a b e f = rw e f
 
 pub not_both : (a b : Bool) → a ≡ false → false ≡ (a && b)
 not_both a b e = rw e refl
-
-pub or_left : (a b : Bool) → a ≡ true → (a || b) ≡ true
-or_left a b e = rw e refl
-
-pub or_right : (a b : Bool) → b ≡ true → (a || b) ≡ true
-or_right true b e = refl
-or_right false b e = e
-
-pub neither : (a b : Bool) → a ≡ false → b ≡ false → (a || b) ≡ false
-neither a b e f = rw (e, f) refl
 
 -- the first of them that holds is told
 module _ (a b : Bool) where

@@ -20,7 +20,8 @@ use Rattle.fab_base.specs.declared.operations.Operation.{Operation}
 use Rattle.fab_base.specs.declared.operations.Receive.{Receive}
 use Rattle.fab_base.specs.declared.operations.Written.{Written}
 use Rattle.fab_model.specs.State.{Completions, Receiving, Transmitting, coming_from, writing}
-use Rattle.fab_model.specs.Complete.{at_match, error}
+use Rattle.fab_model.specs.Complete.{error}
+use Rattle.fab_base.specs.Kinds.{at_match}
 use Rattle.fab_model.specs.Receiving.{cancellable, without_posted}
 use Rattle.fab_model.specs.Peers.{unread}
 use Rattle.fab_model.specs.Sending.{accepting, ending}
@@ -39,9 +40,9 @@ use Rattle.fab_tx.proofs.Answering.{replicate_get}
 use Rattle.fab_face.specs.Acts.{has_read}
 use Rattle.fab_face.specs.Answers.{PopsNot}
 use Rattle.fab_core.specs.Parts.{IsFitting, IsTogether, Parts, held_of, owed}
-use Rattle.fab_ends.specs.Ends.{entry_at_end, unread_of, written_if}
+use Rattle.fab_settling.specs.Ends.{entry_at_end, unread_of, written_if}
 use Rattle.fab_core.specs.Doing.{given_found, received}
-use Rattle.fab_ends.specs.Members.{Members, let_any_go, nobody, read_by}
+use Rattle.fab_settling.specs.Members.{Members, let_any_go, nobody, read_by}
 use Rattle.fab_core.specs.Lent.{IsLent, IsLentBy, IsOther}
 use Rattle.fab_core.proofs.Lending.{lent_read}
 use Rattle.fab_core.proofs.Together.{together_with}

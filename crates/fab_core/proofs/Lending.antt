@@ -1,8 +1,8 @@
 -- What holds of multi-receives is kept where entries are written and read, and where calls are made.
-use Rattle.std.proofs.Common.{◌≡◌, ◌≢◌, ◌⊎◌, inl, inr, ℕ, zero, suc, ◌+◌, ◌-◌, ◌<◌, ◌≤◌, ◌==◌, ◌&&◌, Bool, true, false, List, [], ◌∷◌, ◌++◌, length, length-append, map, Option, Some, None, refl, sym, ap, subst, ◌∙◌, arith}
+use Rattle.std.proofs.Common.{◌≡◌, ◌≢◌, ◌⊎◌, inl, inr, ℕ, zero, suc, ◌+◌, ◌-◌, ◌<◌, ◌≤◌, ◌==◌, Bool, true, false, List, [], ◌∷◌, ◌++◌, length, length-append, map, Option, Some, None, refl, sym, ap, subst, ◌∙◌, arith}
 use Rattle.std.specs.Prelude.{slice_get, is_some, find, Contains}
 use Rattle.std.specs.List.{AllZip}
-use Rattle.std.proofs.lemmas.Bool.{eqb-true, eq-eqb, ne_eqb}
+use Rattle.std.proofs.lemmas.Bool.{eqb-true, eq-eqb, ne_eqb, and_parts as and_both}
 use Rattle.std.proofs.lemmas.Option.{slice_get_within}
 use Rattle.std.proofs.lemmas.List.Elements.{Contains-append_left, Contains-append_right, Contains-append_cases}
 use Rattle.fab_base.specs.declared.entries.Taken.{Taken}
@@ -10,6 +10,7 @@ use Rattle.fab_base.specs.declared.operations.Coming.{Coming}
 use Rattle.fab_base.specs.declared.operations.Coming.TheVariants.{Into, Keep, Throw, Request, Answer}
 use Rattle.fab_base.specs.declared.operations.Receive.{Receive}
 use Rattle.fab_base.specs.declared.operations.Written.{Written}
+use Rattle.fab_base.proofs.Options.{some_there as some_value}
 use Rattle.fab_model.specs.Matching.{remove_first}
 use Rattle.fab_model.specs.State.{Completions, Receiving, State, Transmitting, coming_from, writing}
 use Rattle.fab_model.specs.Peers.{multi_buf, released_buf, same_ctx}
@@ -18,15 +19,16 @@ use Rattle.fab_face.specs.Acts.{is_end_of}
 use Rattle.fab_face.specs.Answers.{IsSharing}
 use Rattle.fab_rx.specs.Arriving.{call_in, id_in}
 use Rattle.fab_rx.specs.Opened.{is_multi, opened}
-use Rattle.fab_ends.specs.declared.places.Place.{Place}
-use Rattle.fab_ends.specs.declared.places.Place.TheVariants.{Open, Ended}
-use Rattle.fab_ends.specs.declared.places.Member.{Member}
-use Rattle.fab_ends.specs.Members.{Members, ended_at, enlisted, is_first, is_next, let_one_go, moved_up, one_read, read_by}
+use Rattle.fab_rx.proofs.Tying.{tied_push as zip_push}
+use Rattle.fab_settling.specs.declared.places.Place.{Place}
+use Rattle.fab_settling.specs.declared.places.Place.TheVariants.{Open, Ended}
+use Rattle.fab_settling.specs.declared.places.Member.{Member}
+use Rattle.fab_settling.specs.Members.{Members, ended_at, enlisted, is_first, is_next, let_one_go, moved_up, one_read, read_by}
 use Rattle.fab_core.specs.Parts.{Parts, held_of, state_of}
-use Rattle.fab_ends.specs.Ends.{unread_of}
+use Rattle.fab_settling.specs.Ends.{unread_of}
 use Rattle.fab_core.specs.Lent.{AreApart, GoesInto, IsAt, IsComingIn, IsLent, IsLentBy, IsOther, IsPlaced, IsUnread, back_of, is_ending, size_by, size_of}
-use Rattle.fab_ends.proofs.Listing.{contains_cases, contains_fewer, contains_here, contains_kept, first_all, first_kept, first_none, first_push, first_pushed, get_kept, get_last, get_push}
-use Rattle.fab_core.proofs.Placing.{single_fewer, single_push, zip_each, zip_push, zip_read, zip_turned}
+use Rattle.fab_settling.proofs.Listing.{contains_cases, contains_fewer, contains_here, contains_kept, first_all, first_kept, first_none, first_push, first_pushed, get_kept, get_last, get_push}
+use Rattle.fab_core.proofs.Placing.{single_fewer, single_push, zip_each, zip_read, zip_turned}
 
 -- ---- entries and their calls
 
@@ -53,10 +55,6 @@ other_back call w other = by (same_ctx (Some call) w.call) refl
     by true is = absurd (other (same_call call w.call is))
     by false is = rw (is, released_buf) refl
 
-pub and_both : (a b : Bool) → (a && b) ≡ true → (a ≡ true) × (b ≡ true)
-and_both true b e = (refl, e)
-and_both false b e = absurd (cc)
-
 pub end_call : (w : Written) (m : ℕ × ℕ) → is_end_of w m ≡ true → (w.call ≡ Some m.1) × (is_ending w.entry ≡ true)
 end_call w m e = let both = and_both (same_ctx w.call (Some m.1)) (is_ending w.entry) e in (same_end m.1 w.call both.0, both.1)
 
@@ -66,10 +64,6 @@ end_is w m its ends = rw (its, eq-eqb m.1 m.1 refl) ends
 positive : (n : ℕ) → (n == 0) ≡ false → 1 ≤ n
 positive zero e = absurd (cc)
 positive (suc n) e = omega arith
-
-some_value : {X : Type 0} (o : Option X) → is_some o ≡ true → (x : X) × (o ≡ Some x)
-some_value None e = absurd (cc)
-some_value (Some x) e = (x, refl)
 
 -- ---- an unread entry
 

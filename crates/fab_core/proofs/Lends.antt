@@ -11,9 +11,9 @@ use Rattle.fab_face.specs.Held.{Held}
 use Rattle.fab_face.specs.Answers.{LendsNone, multi_of}
 use Rattle.fab_rx.specs.Arriving.{made_by, open_under}
 use Rattle.fab_rx.specs.Opened.{is_multi, sized}
-use Rattle.fab_ends.specs.declared.places.Place.{Place}
-use Rattle.fab_ends.specs.declared.places.Place.TheVariants.{Open, Ended}
-use Rattle.fab_ends.specs.declared.places.Member.{Member}
+use Rattle.fab_settling.specs.declared.places.Place.{Place}
+use Rattle.fab_settling.specs.declared.places.Place.TheVariants.{Open, Ended}
+use Rattle.fab_settling.specs.declared.places.Member.{Member}
 use Rattle.fab_core.specs.Parts.{Parts, held_of, state_of}
 use Rattle.fab_core.specs.Multis.{HasBuffer}
 use Rattle.fab_core.specs.Lent.{IsAt, IsLentBy, IsPlaced, back_of}

@@ -1,5 +1,5 @@
 -- What is next for a peer stays so while replies are booked behind it.
-use Rattle.std.proofs.Common.{◌≡◌, ◌≢◌, inl, inr, ℕ, zero, suc, ◌+◌, Bool, true, false, List, [], ◌∷◌, ◌++◌, length, get_or, get_or-set_same, get_or-set_other, Option, Some, None, refl, ap, ◌∙◌}
+use Rattle.std.proofs.Common.{◌≡◌, ◌≢◌, inl, inr, ℕ, ◌+◌, Bool, true, false, List, [], ◌∷◌, ◌++◌, length, get_or, get_or-set_same, get_or-set_other, Option, Some, None, refl, ap, ◌∙◌}
 use Rattle.std.specs.Prelude.{find, slice_get, slice_index, slice_set}
 use Rattle.fab_base.specs.declared.items.Want.{Want}
 use Rattle.fab_model.specs.Matching.{takes}
@@ -12,6 +12,7 @@ use Rattle.fab_base.specs.declared.operations.Coming.{Coming}
 use Rattle.fab_base.specs.declared.operations.Coming.TheVariants.{Into, Keep, Throw, Request, Answer}
 use Rattle.fab_base.specs.declared.operations.Operation.{Operation}
 use Rattle.fab_base.specs.declared.operations.Receive.{Receive}
+use Rattle.fab_base.proofs.Lists.{prefix_get as kept_front}
 use Rattle.fab_model.specs.State.{State, Transmitting, accepted_for, coming_from}
 use Rattle.fab_model.specs.Complete.{joining}
 use Rattle.fab_model.specs.Sending.{answering, ending, going_on, letting_out, transmitting}
@@ -22,17 +23,12 @@ use Rattle.fab_tx.proofs.Answering.{answered_none, answered_some}
 use Rattle.fab_core.specs.Parts.{Parts, state_of}
 use Rattle.fab_rx.specs.Arriving.{finishing}
 use Rattle.fab_rx.specs.Results.{last_of}
-use Rattle.fab_ends.specs.Ends.{booked}
+use Rattle.fab_settling.specs.Ends.{booked}
 use Rattle.fab_core.specs.Doing.{let_back, posted_by, tail, whole, with_arriving}
 
 -- what is accepted for each peer goes on from what was, and as much of it is transmitted
 abbrev pub GoesOn : Transmitting → Transmitting → Type 0
 GoesOn a b = (d : ℕ) (item : Item) → next_item a d ≡ Some item → next_item b d ≡ Some item
-
-kept_front : {X : Type 0} (xs ys : List X) (i : ℕ) (x : X) → slice_get xs i ≡ Some x → slice_get (xs ++ ys) i ≡ Some x
-kept_front [] ys i x is = absurd (cc)
-kept_front (z ∷ zs) ys zero x is = is
-kept_front (z ∷ zs) ys (suc i) x is = kept_front zs ys i x is
 
 -- items are accepted for a peer behind those that are
 module _ (t : ℕ) (items : List Item) (tx u : Transmitting) (sent : u.sent ≡ tx.sent) (accepted : u.accepted ≡ slice_set tx.accepted t (accepted_for tx t ++ items)) where

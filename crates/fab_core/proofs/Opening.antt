@@ -11,7 +11,7 @@ use Rattle.fab_model.specs.Matching.{change_first, remove_first}
 use Rattle.fab_model.specs.State.{Receiving, is_into, under_way}
 use Rattle.fab_model.specs.Complete.{filled, filling, fill_multi, is_made_by}
 use Rattle.fab_model.specs.Arrivals.{seated, shut, stays, used_up}
-use Rattle.fab_model.proofs.Firsts.{IfSome-find}
+use Rattle.fab_model.proofs.Firsts.{IfSome-find, not_found as without_none}
 use Rattle.fab_model.proofs.Parts.{get_or-set}
 use Rattle.fab_rx.specs.Arriving.{without_closed}
 use Rattle.fab_rx.specs.Results.{closed_by}
@@ -23,7 +23,7 @@ use Rattle.fab_rx.proofs.Numbering.{found_other, others_found}
 use Rattle.fab_rx.proofs.Pasting.{length_paste_at}
 use Rattle.fab_rx.proofs.Taking.{seated_off, seated_on, shut_off, shut_on}
 use Rattle.fab_core.specs.Lent.{GoesInto, IsComingIn}
-use Rattle.fab_core.proofs.Doing.{passes, without_none}
+use Rattle.fab_core.proofs.Doing.{passes}
 
 -- ---- a receive by its call
 

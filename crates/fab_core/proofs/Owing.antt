@@ -3,7 +3,7 @@ use Rattle.std.proofs.Common.{◌≡◌, ◌≢◌, inl, inr, ℕ, ◌+◌, ◌<
 use Rattle.std.specs.Prelude.{find, slice_set, IfSome}
 use Rattle.std.specs.Option.{option_map}
 use Rattle.std.proofs.lemmas.Bool.{cases_eq, cases_lt, eq-eqb, ne_eqb}
-use Rattle.std.proofs.lemmas.List.{get_or_past, set_past}
+use Rattle.std.proofs.lemmas.List.{set_past}
 use Rattle.fab_model.proofs.Firsts.{IfSome-find}
 use Rattle.fab_base.specs.declared.items.Ack.{Ack}
 use Rattle.fab_base.specs.declared.items.Ack.TheVariants.{Nothing, Delivery, Match}
@@ -15,9 +15,10 @@ use Rattle.fab_base.specs.declared.operations.Arrival.{Arrival}
 use Rattle.fab_base.specs.declared.operations.Coming.{Coming}
 use Rattle.fab_base.specs.declared.operations.Coming.TheVariants.{Into, Keep, Throw, Request, Answer}
 use Rattle.fab_base.specs.declared.operations.Receive.{Receive}
-use Rattle.fab_model.specs.Complete.{at_delivery, at_match}
+use Rattle.fab_base.specs.Kinds.{at_delivery, at_match, is_message}
 use Rattle.fab_base.specs.Replies.{at_either}
-use Rattle.fab_model.specs.Matching.{is_message, remove_first, takes}
+use Rattle.fab_base.proofs.Lists.{some_within as in_row}
+use Rattle.fab_model.specs.Matching.{remove_first, takes}
 use Rattle.fab_model.specs.State.{Receiving, coming_from}
 use Rattle.fab_model.specs.Arrivals.{completed, heading_message, heading_other, keeping, made_whole, newcomer, taker, way_of}
 use Rattle.fab_rx.proofs.Plain.{shared_besides}
@@ -25,7 +26,7 @@ use Rattle.fab_rx.specs.Arriving.{Arriving, IsArriving, IsPartly, PartlyIn, arri
 use Rattle.fab_rma.specs.Serving.{is_request}
 use Rattle.fab_face.specs.Owed.{is_due}
 use Rattle.fab_core.specs.Parts.{bit, count_of, due_for, is_owed, is_owed_aside, owed}
-use Rattle.fab_orders.specs.Orders.{asks}
+use Rattle.fab_settling.specs.Orders.{asks}
 
 -- ---- counting
 
@@ -59,9 +60,6 @@ module _ {X : Type 0} (f : X → Bool) where
   count_alike : (g : X → X) → ((x : X) → f (g x) ≡ f x) → (xs : List X) → count_of f (map g xs) ≡ count_of f xs
   count_alike g same [] = refl
   count_alike g same (x ∷ xs) = (let a = count_more (g x) (map g xs) in let b = count_alike g same xs in let d = count_more x xs in let e = ap bit (same x) in omega (arith, a, b, d, e))
-
-pub in_row : {X : Type 0} (xs : List (Option X)) (i : ℕ) (x : X) → get_or xs i None ≡ Some x → i < length xs
-in_row xs i x is = elim (cases_lt i (length xs)) [ inl within ↦ within | inr past ↦ (let none : get_or xs i None ≡ None = get_or_past xs i None past in cc) ]
 
 -- ---- an item arrives
 

@@ -4,15 +4,9 @@ use Rattle.std.specs.Prelude.{find, Contains}
 use Rattle.std.specs.List.{AllZip}
 use Rattle.fab_model.specs.Matching.{remove_first}
 use Rattle.fab_core.specs.Lent.{AreOthers, AreSingle}
-use Rattle.fab_ends.proofs.Listing.{contains_cases, contains_here, contains_later}
+use Rattle.fab_settling.proofs.Listing.{contains_cases, contains_here, contains_later}
 
 module _ {A B : Type 0} (R : A → B → Type 0) where
-  pub zip_push : (xs : List A) (ys : List B) (x : A) (y : B) → AllZip R xs ys → R x y → AllZip R (xs ++ x ∷ []) (ys ++ y ∷ [])
-  zip_push [] [] x y z r = (r, tt)
-  zip_push [] (b ∷ ys) x y z r = absurd z
-  zip_push (a ∷ xs) [] x y z r = absurd z
-  zip_push (a ∷ xs) (b ∷ ys) x y z r = (z.0, zip_push xs ys x y z.1 r)
-
   pub zip_each : (S : A → B → Type 0) → ((x : A) (y : B) → R x y → S x y) → (xs : List A) (ys : List B) → AllZip R xs ys → AllZip S xs ys
   zip_each S each [] [] z = tt
   zip_each S each [] (b ∷ ys) z = absurd z

@@ -2,7 +2,7 @@
 use Rattle.std.proofs.Common.{◌≡◌, ◌≢◌, inl, ℕ, ◌+◌, ◌<◌, ◌≤◌, ◌==◌, Bool, true, false, not, List, [], ◌∷◌, ◌++◌, length, get_or, Option, Some, None, refl, sym, ap, subst, ◌∙◌, arith}
 use Rattle.std.specs.Prelude.{find, is_some, All, IfSome}
 use Rattle.std.specs.Option.{option_map}
-use Rattle.std.proofs.lemmas.Bool.{eqb-true, eq-eqb, ne_eqb}
+use Rattle.std.proofs.lemmas.Bool.{eqb-true, eq-eqb, ne_eqb, and_parts as and_both}
 use Rattle.std.proofs.lemmas.List.Elements.{All-append}
 use Rattle.fab_base.specs.declared.entries.ErrEntry.{ErrEntry}
 use Rattle.fab_base.specs.declared.entries.ErrKind.TheVariants.{Canceled}
@@ -16,9 +16,11 @@ use Rattle.fab_base.specs.declared.operations.Arrival.{Arrival}
 use Rattle.fab_base.specs.declared.operations.Coming.{Coming}
 use Rattle.fab_base.specs.declared.operations.Coming.TheVariants.{Into, Throw}
 use Rattle.fab_base.specs.declared.operations.Receive.{Receive}
+use Rattle.fab_base.proofs.Options.{not_some as none_of}
 use Rattle.fab_model.specs.Matching.{remove_first, takes}
 use Rattle.fab_model.specs.State.{Completions, Receiving, coming_from, under_way, writing}
-use Rattle.fab_model.specs.Complete.{at_match, error}
+use Rattle.fab_model.specs.Complete.{error}
+use Rattle.fab_base.specs.Kinds.{at_match}
 use Rattle.fab_model.specs.Receiving.{cancellable, claiming, goes, joining_posted, may_leave, without_claim, without_first}
 use Rattle.fab_model.proofs.Firsts.{IfSome-find}
 use Rattle.fab_rx.specs.Arriving.{IsArriving, IsNamed, call_in, given, id_in, opening}
@@ -30,22 +32,18 @@ use Rattle.fab_rx.proofs.Numbering.{below_found, others_below}
 use Rattle.fab_tx.specs.Transit.{Transit}
 use Rattle.fab_face.specs.declared.multis.MultiAsk.{MultiAsk}
 use Rattle.fab_core.specs.Parts.{Parts}
-use Rattle.fab_ends.specs.Ends.{unread_of}
+use Rattle.fab_settling.specs.Ends.{unread_of}
 use Rattle.fab_core.specs.Doing.{called, given_whole, left_by, posted_by, receive_now, with_arriving}
-use Rattle.fab_ends.specs.Members.{Members, let_any_go}
-use Rattle.fab_orders.specs.Looks.{is_due_now, parted, parted_by, told}
+use Rattle.fab_settling.specs.Members.{Members, let_any_go}
+use Rattle.fab_settling.specs.Looks.{is_due_now, parted, parted_by, told}
 use Rattle.fab_core.specs.Looks.{claim_by, claim_receive, dropped_by, looked_by, met_by, taken_by}
 use Rattle.fab_core.specs.Multis.{shared_by, shared_now}
 use Rattle.fab_core.specs.Lent.{GoesInto, IsComingIn, IsLent, IsLentBy}
 use Rattle.fab_core.proofs.Doing.{passes}
-use Rattle.fab_core.proofs.Lending.{and_both, lent_moved, lent_shared, lent_written, other_back, places_kept}
+use Rattle.fab_core.proofs.Lending.{lent_moved, lent_shared, lent_written, other_back, places_kept}
 use Rattle.fab_core.proofs.Opening.{coming_left, coming_moved, coming_set, distinct_left, seek, seek_besides, seek_gone, seek_is, seek_none, seek_other, seek_parts, seek_removed, taker_is, taker_open}
 use Rattle.fab_core.proofs.Stepping.{IsOfSingle, lent_left, lent_other, lent_received}
 use Rattle.fab_core.proofs.Standing.{booked_lent, called_lent, this_other}
-
-none_of : {X : Type 0} (o : Option X) → is_some o ≡ false → o ≡ None
-none_of None e = refl
-none_of (Some x) e = absurd (cc)
 
 same_failure : (y x : ErrEntry) → Failure y ≡ Failure x → y ≡ x
 same_failure y x e = cc

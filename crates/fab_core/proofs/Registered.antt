@@ -16,7 +16,7 @@ use Rattle.fab_model.specs.Calls.{Call, Close, Put, Reg, answer, close, do_call,
 use Rattle.fab_rma.specs.Serving.{Serving}
 use Rattle.fab_face.specs.Targets.{DoesHere}
 use Rattle.fab_core.specs.Parts.{Parts, held_of, state_of}
-use Rattle.fab_orders.specs.Orders.{lacks}
+use Rattle.fab_settling.specs.Orders.{lacks}
 
 abbrev region : ℕ → Access → List ℕ → Region
 region key access bytes = record { key = key; access = access; bytes = bytes }

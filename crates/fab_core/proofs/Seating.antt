@@ -8,7 +8,8 @@ use Rattle.fab_base.specs.declared.operations.Coming.TheVariants.{Into}
 use Rattle.fab_base.specs.declared.operations.Receive.{Receive}
 use Rattle.fab_model.specs.Matching.{change_first, remove_first}
 use Rattle.fab_model.specs.State.{Receiving, coming_from, writing}
-use Rattle.fab_model.specs.Complete.{at_match, entry_of, filled, filling, fill_multi, is_made_by}
+use Rattle.fab_model.specs.Complete.{entry_of, filled, filling, fill_multi, is_made_by}
+use Rattle.fab_base.specs.Kinds.{at_match}
 use Rattle.fab_model.specs.Receiving.{draw_due, draws, goes}
 use Rattle.fab_model.specs.Arrivals.{seated, shut, stays, used_up}
 use Rattle.fab_rx.specs.Arriving.{IsArriving, id_in, shared, with_receiving, without_closed}
@@ -19,9 +20,9 @@ use Rattle.fab_rx.proofs.Numbering.{closed_coming}
 use Rattle.fab_rx.proofs.Onces.{change_last, others_none, remove_last}
 use Rattle.fab_rx.proofs.Taking.{seated_off, shut_off, shut_on}
 use Rattle.fab_core.specs.Parts.{Parts}
-use Rattle.fab_ends.specs.Ends.{unread_of}
+use Rattle.fab_settling.specs.Ends.{unread_of}
 use Rattle.fab_core.specs.Doing.{let_back, received, with_arriving}
-use Rattle.fab_ends.specs.Members.{let_go}
+use Rattle.fab_settling.specs.Members.{let_go}
 use Rattle.fab_core.specs.Draws.{drew}
 use Rattle.fab_core.specs.Lent.{GoesInto, IsLent, IsLentBy}
 use Rattle.fab_core.proofs.Drawing.{IsDrawn, handed_by, who_draws}

@@ -6,7 +6,7 @@ use Rattle.fab_base.specs.declared.entries.PeekHow.TheVariants.{Peek, Claim, Dis
 use Rattle.fab_base.specs.declared.items.Want.{Want}
 use Rattle.fab_base.specs.declared.operations.Arrival.{Arrival}
 use Rattle.fab_base.specs.declared.operations.Receive.{Receive}
-use Rattle.fab_model.specs.Complete.{at_match}
+use Rattle.fab_base.specs.Kinds.{at_match}
 use Rattle.fab_model.specs.Matching.{takes}
 use Rattle.fab_model.specs.Receiving.{drop_arrival, drop_claimed, give, look, take_claimed, without_claim, without_first}
 use Rattle.fab_model.specs.State.{writing}
@@ -18,7 +18,7 @@ use Rattle.fab_rx.specs.declared.results.Seen.{Seen}
 use Rattle.fab_tx.specs.Transit.{Transit}
 use Rattle.fab_core.specs.Parts.{Parts, held_of, state_of}
 use Rattle.fab_core.specs.Doing.{called, with_arriving}
-use Rattle.fab_orders.specs.Looks.{parted, told}
+use Rattle.fab_settling.specs.Looks.{parted, told}
 use Rattle.fab_core.specs.Looks.{claim_by, claim_receive, dropped_by, looked_by, met_by, taken_by}
 use Rattle.fab_core.proofs.Doing.{book_is, received_is}
 use Rattle.fab_core.proofs.Next.{GoesOn, booked_next, booked_places}

@@ -18,14 +18,14 @@ use Rattle.fab_rx.specs.Arriving.{Arriving, begun_of, growing, lengthened}
 use Rattle.fab_rma.specs.Serving.{Serving, nothing_served}
 use Rattle.fab_rma.proofs.Performing.{outcome_is}
 use Rattle.fab_core.specs.Parts.{Parts, state_of}
-use Rattle.fab_ends.specs.Served.{counted, data_of, writes_data}
+use Rattle.fab_settling.specs.Served.{counted, data_of, writes_data}
 use Rattle.fab_core.specs.Requests.{IsAwaited, IsServing}
-use Rattle.fab_ends.specs.Ends.{written_if}
+use Rattle.fab_settling.specs.Ends.{written_if}
 use Rattle.fab_core.specs.Doing.{requested}
 
 -- ---- what is begun
 
-begun_none : (peers s : ℕ) → get_or (replicate {A = Option Item} peers None) s None ≡ None
+pub begun_none : (peers s : ℕ) → get_or (replicate {A = Option Item} peers None) s None ≡ None
 begun_none peers s = elim (cases_lt s peers) [
   | inl within ↦ get_or-replicate peers s None None within
   | inr past ↦ get_or_past (replicate peers None) s None (let l = length-replicate {A = Option Item} peers None in omega (arith, l, past))

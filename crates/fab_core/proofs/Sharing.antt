@@ -18,7 +18,7 @@ use Rattle.fab_face.specs.Multis.{multi_asking}
 use Rattle.fab_face.specs.declared.multis.MultiAsk.{MultiAsk}
 use Rattle.fab_core.specs.Parts.{IsTogether, Parts, held_of, state_of}
 use Rattle.fab_core.specs.Doing.{lasting_post}
-use Rattle.fab_orders.specs.Orders.{sharing_of}
+use Rattle.fab_settling.specs.Orders.{sharing_of}
 use Rattle.fab_core.specs.Multis.{IsShared, passing_multi, shared_by}
 use Rattle.fab_core.proofs.Calling.{again, post_again, post_done, post_final, post_not_lasting, post_passing, post_refused}
 use Rattle.fab_core.proofs.Together.{together_with}

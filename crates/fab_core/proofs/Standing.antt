@@ -16,11 +16,12 @@ use Rattle.fab_base.specs.declared.operations.Coming.TheVariants.{Into, Keep, Th
 use Rattle.fab_base.specs.declared.operations.Held.{Held}
 use Rattle.fab_base.specs.declared.operations.Operation.{Operation}
 use Rattle.fab_base.specs.declared.operations.Receive.{Receive}
-use Rattle.fab_model.specs.Matching.{is_message, remove_first}
+use Rattle.fab_model.specs.Matching.{remove_first}
+use Rattle.fab_base.specs.Kinds.{at_delivery, is_answered, is_message}
 use Rattle.fab_model.specs.State.{Completions, Receiving, Transmitting, coming_from, raise, writing}
-use Rattle.fab_model.specs.Complete.{at_delivery, entry_of, error, filled, filling, fill_multi, is_made_by, joining}
+use Rattle.fab_model.specs.Complete.{entry_of, error, filled, filling, fill_multi, is_made_by, joining}
 use Rattle.fab_base.specs.Replies.{at_either}
-use Rattle.fab_model.specs.Sending.{accepting, is_answered, is_answered_by, is_of_item, success_of}
+use Rattle.fab_model.specs.Sending.{accepting, is_answered_by, is_of_item, success_of}
 use Rattle.fab_model.specs.Target.{perform}
 use Rattle.fab_model.specs.Arrivals.{heading_message, heading_other, is_wanted, keeping, made_whole, newcomer, seated, shut, taker, way_of}
 use Rattle.fab_rx.specs.Arriving.{bytes_come, begun_of, id_in, shared, without_closed}
@@ -32,10 +33,10 @@ use Rattle.fab_rma.specs.Serving.{outcome_at}
 use Rattle.fab_tx.specs.Transit.{Transit, answered, ended, transmitted}
 use Rattle.fab_tx.specs.declared.results.Ended.{Ended}
 use Rattle.fab_core.specs.Parts.{Parts}
-use Rattle.fab_ends.specs.Ends.{as_operation, booked, cq_after, entry_at_end, reply_to, unread_of, well_entry, written_if}
+use Rattle.fab_settling.specs.Ends.{as_operation, booked, cq_after, entry_at_end, reply_to, unread_of, well_entry, written_if}
 use Rattle.fab_core.specs.Doing.{heading, let_back, received, sent, tail, with_arriving}
-use Rattle.fab_ends.specs.Members.{Members, let_go}
-use Rattle.fab_ends.specs.Served.{data_of, reply_of}
+use Rattle.fab_settling.specs.Members.{Members, let_go}
+use Rattle.fab_settling.specs.Served.{data_of, reply_of}
 use Rattle.fab_core.specs.Lent.{AreApart, GoesInto, IsComingIn, IsLent, IsLentBy, IsOther}
 use Rattle.fab_core.proofs.Apart.{accepting_apart, answered_apart, other_found, transmitted_apart}
 use Rattle.fab_core.proofs.Lending.{lent_called, lent_moved}

@@ -6,6 +6,7 @@ use Rattle.fab_base.specs.declared.operations.Arrival.{Arrival}
 use Rattle.std.proofs.lemmas.List.Elements.{All-weaker}
 use Rattle.fab_face.specs.Owed.{PartlyIn as PartlyFor}
 use Rattle.fab_rx.specs.Arriving.{Arriving, IsArriving, PartlyIn, begun_of, count_begun as count_in}
+use Rattle.fab_rx.proofs.Growing.{item_there}
 use Rattle.fab_tx.specs.Transit.{IsTransit}
 use Rattle.fab_face.specs.Held.{count_begun, next_item, IsOutAt}
 use Rattle.fab_face.specs.Machine.{IsSteady}
@@ -14,11 +15,6 @@ use Rattle.fab_core.specs.Parts.{IsTogether, Parts, held_of}
 same_count : (o : Option Item) → count_in o ≡ count_begun o
 same_count None = refl
 same_count (Some item) = refl
-
--- there is an item where a fact of one is asked for
-pub item_there : (P : Item → Type 0) (o : Option Item) → IsSomeAnd o P → (item : Item) × (o ≡ Some item) × P item
-item_there P None h = absurd h
-item_there P (Some item) h = (item, refl, h)
 
 out_at : (p : Parts) (d : ℕ) → (slice_index p.tx.places d ≡ 0) ⊎ IsSomeAnd (next_item (held_of p).state d) (λ item. slice_index p.tx.places d < item.head.total) → IsOutAt (held_of p) d
 out_at p d (inl nothing) = inl nothing

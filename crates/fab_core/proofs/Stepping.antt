@@ -19,10 +19,10 @@ use Rattle.fab_cq.specs.Queues.{buffer_in}
 use Rattle.fab_rx.specs.Arriving.{call_in, id_in, without_closed}
 use Rattle.fab_rx.specs.Results.{closed_by}
 use Rattle.fab_rx.specs.Opened.{is_multi, opened, sized}
-use Rattle.fab_ends.specs.declared.places.Place.{Place}
-use Rattle.fab_ends.specs.declared.places.Place.TheVariants.{Open, Ended}
-use Rattle.fab_ends.specs.Ends.{unread_of}
-use Rattle.fab_ends.specs.Members.{Members, let_any_go, let_go, let_one_go}
+use Rattle.fab_settling.specs.declared.places.Place.{Place}
+use Rattle.fab_settling.specs.declared.places.Place.TheVariants.{Open, Ended}
+use Rattle.fab_settling.specs.Ends.{unread_of}
+use Rattle.fab_settling.specs.Members.{Members, let_any_go, let_go, let_one_go}
 use Rattle.fab_core.specs.Lent.{GoesInto, IsAt, IsComingIn, IsLent, IsPlaced, IsUnread, back_of, is_ending, size_by, size_of}
 use Rattle.fab_core.proofs.Lending.{Becomes, lent_written, other_back, places_kept, places_turned}
 use Rattle.fab_core.proofs.Placing.{zip_there}

@@ -17,9 +17,10 @@ use Rattle.fab_base.specs.declared.operations.Coming.TheVariants.{Into, Keep, Th
 use Rattle.fab_base.specs.declared.operations.Held.{Held}
 use Rattle.fab_base.specs.declared.operations.Operation.{Operation}
 use Rattle.fab_base.specs.declared.operations.Receive.{Receive}
-use Rattle.fab_model.specs.Matching.{is_message, takes}
+use Rattle.fab_base.proofs.Lists.{some_within as in_row}
+use Rattle.fab_model.specs.Matching.{takes}
+use Rattle.fab_base.specs.Kinds.{at_match, is_message}
 use Rattle.fab_model.specs.State.{Completions, Transmitting, coming_from, lookup}
-use Rattle.fab_model.specs.Complete.{at_match}
 use Rattle.fab_model.specs.Sending.{accepting, answering, ending, going_on, letting_out, transmitting}
 use Rattle.fab_model.specs.Arrivals.{heading_message, heading_other, taker, way_of}
 use Rattle.fab_rx.specs.Arriving.{Arriving, IsArriving, IsPartly, PartlyIn, arriving, bare, begun_of, finishing, growing, headed, lengthened, nothing_arrived, posting}
@@ -30,10 +31,11 @@ use Rattle.fab_av.specs.Addresses.{Addresses}
 use Rattle.fab_rma.specs.Serving.{is_request}
 use Rattle.fab_face.specs.Owed.{is_due}
 use Rattle.fab_core.specs.Parts.{IsFitting, IsTogether, Parts, bit, is_owed, owed}
-use Rattle.fab_ends.specs.Ends.{booked, cq_after, entry_at_end, written_if}
-use Rattle.fab_orders.specs.Orders.{asks}
+use Rattle.fab_settling.specs.Ends.{booked, cq_after, entry_at_end, written_if}
+use Rattle.fab_settling.specs.Orders.{asks}
 use Rattle.fab_core.specs.Doing.{growing_by, heading, with_transit}
-use Rattle.fab_core.proofs.Owing.{in_row, owed_besides, owed_given, owed_going, owed_grown, owed_here, owed_joined, owed_there, owed_whole, whole_coming}
+use Rattle.fab_core.proofs.Owing.{owed_besides, owed_given, owed_going, owed_grown, owed_here, owed_joined, owed_there, owed_whole, whole_coming}
+use Rattle.fab_core.proofs.Serves.{begun_none as none_begun}
 
 -- ---- nothing has happened
 
@@ -41,12 +43,6 @@ none_coming : (peers s : ℕ) → get_or (replicate {A = Option Coming} peers No
 none_coming peers s = elim (cases_lt s peers) [
   | inl within ↦ get_or-replicate peers s None None within
   | inr past ↦ get_or_past (replicate peers None) s None (let l = length-replicate {A = Option Coming} peers None in omega (arith, l, past))
-]
-
-none_begun : (peers s : ℕ) → get_or (replicate {A = Option Item} peers None) s None ≡ None
-none_begun peers s = elim (cases_lt s peers) [
-  | inl within ↦ get_or-replicate peers s None None within
-  | inr past ↦ get_or_past (replicate peers None) s None (let l = length-replicate {A = Option Item} peers None in omega (arith, l, past))
 ]
 
 fits_nothing : (c : Option Coming) → IsFitting c None

@@ -26,7 +26,8 @@ use Rattle.fab_base.specs.declared.operations.Operation.{Operation}
 use Rattle.fab_base.specs.declared.operations.Receive.{Receive}
 use Rattle.fab_model.specs.Matching.{takes}
 use Rattle.fab_model.specs.State.{State, Transmitting, coming_from, counting, writing, Region}
-use Rattle.fab_model.specs.Complete.{at_delivery, at_match, error}
+use Rattle.fab_model.specs.Complete.{error}
+use Rattle.fab_base.specs.Kinds.{at_delivery, at_match}
 use Rattle.fab_base.specs.Replies.{at_either}
 use Rattle.fab_model.specs.Receiving.{Posting, cancellable, without_posted, post_refusals}
 use Rattle.fab_model.specs.Sending.{Order, ending, first_fault, head_of, is_silent, transmit_refusals}
@@ -38,10 +39,10 @@ use Rattle.fab_cq.specs.Queues.{has_room}
 use Rattle.fab_tx.specs.Transit.{Transit, accepting_by, answered_by, booking, finds_answered, finishing as finishing_sent}
 use Rattle.fab_model.specs.Target.{perform}
 use Rattle.fab_rma.specs.Serving.{outcome_at}
-use Rattle.fab_ends.specs.Ends.{answer_writes, booked, counters_after, cq_after, unread_of, written_if}
-use Rattle.fab_ends.specs.Members.{let_any_go, let_go}
+use Rattle.fab_settling.specs.Ends.{answer_writes, booked, counters_after, cq_after, unread_of, written_if}
+use Rattle.fab_settling.specs.Members.{let_any_go, let_go}
 use Rattle.fab_core.specs.Parts.{Parts, state_of}
-use Rattle.fab_ends.specs.Served.{counted, data_of, reply_of, served, writes_data}
+use Rattle.fab_settling.specs.Served.{counted, data_of, reply_of, served, writes_data}
 
 -- ---- the end of an operation
 

@@ -4,15 +4,15 @@ use Rattle.std.specs.Prelude.{ℕ, Option}
 use Rattle.std.specs.Option.{option_map}
 use Rattle.fab_base.specs.declared.entries.Entry.TheVariants.{Released as GivenBack}
 use Rattle.fab_base.specs.declared.entries.Taken.TheVariants.{Success}
-use Rattle.fab_model.specs.Complete.{at_match}
+use Rattle.fab_base.specs.Kinds.{at_match}
 use Rattle.fab_model.specs.State.{Receiving, writing}
 use Rattle.fab_rx.specs.Drawing.{drawer, drawing, drawn}
 use Rattle.fab_rx.specs.declared.results.Drawn.{Drawn}
 use Rattle.fab_rx.specs.declared.results.Drawn.TheVariants.{GoesOn, Part, Last}
 use Rattle.fab_core.specs.Parts.{Parts}
-use Rattle.fab_ends.specs.Ends.{unread_of}
+use Rattle.fab_settling.specs.Ends.{unread_of}
 use Rattle.fab_core.specs.Doing.{received, with_arriving}
-use Rattle.fab_ends.specs.Members.{let_go}
+use Rattle.fab_settling.specs.Members.{let_go}
 
 -- the call of the receive that draws
 abbrev pub call_drawn : Receiving → Option ℕ

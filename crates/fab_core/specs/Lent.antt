@@ -26,10 +26,10 @@ use Rattle.fab_model.specs.Peers.{first_some, part_of, released_buf}
 use Rattle.fab_rx.specs.Opened.{is_multi, opened, sized}
 use Rattle.fab_cq.specs.Queues.{buffer_in, later}
 use Rattle.fab_rx.specs.Arriving.{call_in, id_in}
-use Rattle.fab_ends.specs.declared.places.Place.{Place}
-use Rattle.fab_ends.specs.declared.places.Place.TheVariants.{Open, Ended}
-use Rattle.fab_ends.specs.declared.places.Member.{Member}
-use Rattle.fab_ends.specs.Members.{Members}
+use Rattle.fab_settling.specs.declared.places.Place.{Place}
+use Rattle.fab_settling.specs.declared.places.Place.TheVariants.{Open, Ended}
+use Rattle.fab_settling.specs.declared.places.Member.{Member}
+use Rattle.fab_settling.specs.Members.{Members}
 use Rattle.fab_core.specs.Parts.{Parts}
 
 -- there is memory for each one that may be posted, closing, or ended and unread

@@ -20,7 +20,7 @@ use Rattle.fab_rx.specs.Claims.{any_tagged, claim_under, dropping, seen, taking}
 use Rattle.fab_rx.specs.declared.results.Seen.{Seen}
 use Rattle.fab_face.specs.declared.looking.Look.{Look}
 use Rattle.fab_core.specs.Parts.{Parts}
-use Rattle.fab_orders.specs.Looks.{looked, parted, parted_by, told}
+use Rattle.fab_settling.specs.Looks.{looked, parted, parted_by, told}
 use Rattle.fab_core.specs.Doing.{called, given_found, with_arriving}
 
 -- ---- calls

@@ -16,7 +16,7 @@ use Rattle.fab_face.specs.Held.{Held}
 use Rattle.fab_face.specs.declared.multis.MultiAsk.{MultiAsk}
 use Rattle.fab_core.specs.Parts.{Parts, state_of}
 use Rattle.fab_core.specs.Doing.{called, with_arriving}
-use Rattle.fab_ends.specs.Members.{enlisted}
+use Rattle.fab_settling.specs.Members.{enlisted}
 
 -- it waits for draws that are due, and for a place
 abbrev pub passing_multi : Parts → Option Fault

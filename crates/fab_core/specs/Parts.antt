@@ -12,14 +12,13 @@ use Rattle.fab_base.specs.declared.operations.Coming.{Coming}
 use Rattle.fab_base.specs.declared.operations.Coming.TheVariants.{Into, Keep, Throw, Request, Answer}
 use Rattle.fab_base.specs.declared.operations.Tally.{Tally}
 use Rattle.fab_av.specs.Addresses.{Addresses}
-use Rattle.fab_model.specs.Complete.{at_match}
-use Rattle.fab_model.specs.Matching.{is_message}
+use Rattle.fab_base.specs.Kinds.{at_match, is_message}
 use Rattle.fab_model.specs.State.{Completions, State, coming_from, lookup}
 use Rattle.fab_rx.specs.Arriving.{Arriving, begun_of}
 use Rattle.fab_tx.specs.Transit.{Transit}
 use Rattle.fab_face.specs.Held.{Held}
 use Rattle.fab_face.specs.Owed.{is_due}
-use Rattle.fab_ends.specs.Members.{Members}
+use Rattle.fab_settling.specs.Members.{Members}
 use Rattle.fab_rma.specs.Serving.{Serving, is_request}
 
 pub record Parts : Type 0 where

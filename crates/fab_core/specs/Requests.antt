@@ -2,7 +2,7 @@
 --     IsServing begun target     what holds between calls
 use Rattle.std.specs.Prelude.{◌≡◌, ℕ, ◌≤◌, true, List, length, Option, None, IfSome, slice_index, slice_index_or}
 use Rattle.fab_base.specs.declared.items.Item.{Item}
-use Rattle.fab_wire.specs.Frames.{IsSound}
+use Rattle.fab_link.specs.Frames.{IsSound}
 use Rattle.fab_rma.specs.Serving.{Serving, is_request, room_for}
 
 -- a request that is begun makes sense, and there is room for what it hands back

@@ -7,9 +7,9 @@ ghost use Rattle.fab_core.specs.Draws.{drew};
 
 use crate::callers::OfDrawer;
 use crate::parts::Core;
-use fab_ends::handing::{at_match, hand_last, hand_over};
 use fab_match::Matcher;
 use fab_rx::{Drawn, Inbox};
+use fab_settling::handing::{hand_last, hand_over};
 use std::snapshot::Snapshot;
 
 impl<M: Matcher> Core<M> {
@@ -35,13 +35,13 @@ impl<M: Matcher> Core<M> {
         match drawn {
             Drawn::GoesOn => {}
             Drawn::Part(completed) => {
-                let due = at_match(completed.head.ack);
+                let due = completed.head.ack.at_match();
                 hand_over::<Snapshot<Inbox<M>>, OfDrawer>(
                     *alloc, cq, counters, tx, &about, due, completed,
                 );
             }
             Drawn::Last(completed, released) => {
-                let due = at_match(completed.head.ack);
+                let due = completed.head.ack.at_match();
                 hand_last::<Snapshot<Inbox<M>>, OfDrawer>(
                     *alloc, cq, counters, tx, multis, &about, due, completed, released,
                 );

@@ -1,8 +1,8 @@
 //! The matching machine of one endpoint: its halves, its completion queue and its counters, put together.
 //!
 //! [`Core`] is the [`Machine`](fab_face::machine::Machine) under an endpoint. A call is judged here, by
-//! `fab_orders` where no state is needed, and done by the half that it belongs to. No half calls another: what a
-//! half hands out is written, counted and booked by `fab_ends`.
+//! `fab_settling` where no state is needed, and done by the half that it belongs to. No half calls another: what a
+//! half hands out is written, counted and booked there, too.
 //!
 //! | file | what it does |
 //! |---|---|

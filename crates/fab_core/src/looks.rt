@@ -8,17 +8,17 @@ ghost use Rattle.fab_cq.specs.Queues.{has_room};
 ghost use Rattle.fab_rx.specs.Claims.{claim_under};
 ghost use Rattle.fab_core.specs.Parts.{state_of};
 ghost use Rattle.fab_core.specs.Passing.{is_held};
-ghost use Rattle.fab_orders.specs.Orders.{look_want};
+ghost use Rattle.fab_settling.specs.Orders.{look_want};
 ghost use Rattle.fab_core.specs.Looks.{dropped_by, is_held_take, lacks_take, lasting_claimed, lasting_look, looked_by, taken_by};
 
 use crate::parts::Core;
 use fab_base::{Buf, Fault, PeekHow, Refused, Want};
-use fab_ends::calls::{CallRecord, ThisCall, call};
-use fab_ends::handing::{at_match, hand_over};
 use fab_face::looking::Look;
 use fab_match::Matcher;
-use fab_orders::looks::{is_claim, meet, part, part_by, told};
 use fab_rx::Posted;
+use fab_settling::calls::{CallRecord, ThisCall, call};
+use fab_settling::handing::hand_over;
+use fab_settling::looks::{is_claim, meet, part, part_by, told};
 use std::snapshot::Snapshot;
 
 impl<M: Matcher> Core<M> {
@@ -156,7 +156,7 @@ impl<M: Matcher> Core<M> {
                 alloc,
                 ..
             } = self;
-            let due = at_match(completed.head.ack);
+            let due = completed.head.ack.at_match();
             hand_over::<Snapshot<CallRecord>, ThisCall>(
                 *alloc, cq, counters, tx, &about, due, completed,
             );

@@ -5,7 +5,7 @@ use crate::parts::Core;
 use fab_base::{Buf, Entry, ErrEntry, Fault, FrameHead, NoMemory, Refused};
 use fab_face::machine::{Ask, Machine, Message, Next};
 use fab_match::Matcher;
-use fab_orders::items::is_last;
+use fab_settling::items::is_last;
 use std::snapshot::Snapshot;
 
 impl<M: Matcher> Machine for Core<M> {

@@ -3,16 +3,16 @@ ghost use Rattle.std.specs.Prelude.{◌≡◌, ◌<◌, ◌^◌, length, Some, N
 ghost use Rattle.fab_face.specs.Answers.{multi_of};
 ghost use Rattle.fab_core.specs.Parts.{held_of, state_of};
 ghost use Rattle.fab_core.specs.Doing.{lasting_post};
-ghost use Rattle.fab_orders.specs.Orders.{sharing_of};
+ghost use Rattle.fab_settling.specs.Orders.{sharing_of};
 ghost use Rattle.fab_core.specs.Multis.{HasBuffer, IsShared, passing_multi};
 
 use crate::parts::Core;
 use fab_base::{Buf, Busy, Fault, Refused};
-use fab_ends::calls::{CallRecord, ThisCall, call};
-use fab_ends::places::Place;
 use fab_face::multis::MultiAsk;
 use fab_match::Matcher;
-use fab_orders::receives::least_is_wrong;
+use fab_settling::calls::{CallRecord, ThisCall, call};
+use fab_settling::places::Place;
+use fab_settling::receives::least_is_wrong;
 use std::snapshot::Snapshot;
 
 impl<M: Matcher> Core<M> {

@@ -7,18 +7,18 @@ ghost use Rattle.fab_cq.specs.Queues.{has_room};
 ghost use Rattle.fab_rx.specs.Leaving.{is_meant};
 ghost use Rattle.fab_core.specs.Parts.{state_of};
 ghost use Rattle.fab_core.specs.Doing.{left_by, lasting_post, posted_by};
-ghost use Rattle.fab_orders.specs.Orders.{posting_of, wanted};
+ghost use Rattle.fab_settling.specs.Orders.{posting_of, wanted};
 ghost use Rattle.fab_core.specs.Passing.{is_held, passing_post};
 
 use crate::callers::OfReceive;
 use crate::parts::Core;
 use fab_base::{Buf, Busy, Class, Fault, Refused, Want};
-use fab_ends::calls::{CallRecord, ThisCall, call};
-use fab_ends::handing::{at_match, hand_over};
 use fab_face::machine::Ask;
 use fab_match::Matcher;
-use fab_orders::receives::{canceled, withdraw};
 use fab_rx::{Inbox, Posted};
+use fab_settling::calls::{CallRecord, ThisCall, call};
+use fab_settling::handing::hand_over;
+use fab_settling::receives::{canceled, withdraw};
 use std::snapshot::Snapshot;
 
 impl<M: Matcher> Core<M> {
@@ -145,7 +145,7 @@ impl<M: Matcher> Core<M> {
                 alloc,
                 ..
             } = self;
-            let due = at_match(completed.head.ack);
+            let due = completed.head.ack.at_match();
             hand_over::<Snapshot<CallRecord>, ThisCall>(
                 *alloc, cq, counters, tx, &about, due, completed,
             );

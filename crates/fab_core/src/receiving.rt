@@ -5,7 +5,7 @@ use crate::parts::Core;
 use fab_base::{Buf, Fault, Refused};
 use fab_face::multis::{MultiAsk, MultiReceiving};
 use fab_match::Matcher;
-use fab_orders::receives::part_of;
+use fab_settling::receives::part_of;
 
 impl<M: Matcher> MultiReceiving for Core<M> {
     fn sharing(&self) {

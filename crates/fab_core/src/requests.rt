@@ -1,7 +1,7 @@
 //! Reads, writes and atomics of a peer are judged and accepted (fi_rma(3), fi_atomic(3)).
 ghost use Rattle.std.specs.Prelude.{◌≡◌, ◌<◌, ◌≤◌, ◌^◌, ◌+◌, [], Some, None, length};
 ghost use Rattle.fab_base.specs.declared.limits.TheConstants.{INJECT_BYTES};
-ghost use Rattle.fab_wire.specs.Frames.{IsSound};
+ghost use Rattle.fab_link.specs.Frames.{IsSound};
 ghost use Rattle.fab_model.specs.State.{in_use};
 ghost use Rattle.fab_model.specs.Sending.{head_of};
 ghost use Rattle.fab_face.specs.Requesting.{order_asked};
@@ -11,11 +11,11 @@ ghost use Rattle.fab_core.specs.Doing.{lasting_transmit};
 
 use crate::parts::Core;
 use fab_base::{Buf, Fault, INJECT_BYTES, Level};
-use fab_ends::calls::{CallRecord, ThisCall, call};
 use fab_face::requesting::{Request, Requesting};
 use fab_match::Matcher;
-use fab_orders::granted::may_ask;
-use fab_orders::requests::{asks_silently, is_too_long, is_well_formed, request_head};
+use fab_settling::calls::{CallRecord, ThisCall, call};
+use fab_settling::granted::may_ask;
+use fab_settling::requests::{asks_silently, is_too_long, is_well_formed, request_head};
 use std::snapshot::Snapshot;
 
 impl<M: Matcher> Core<M> {

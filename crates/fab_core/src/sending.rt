@@ -1,23 +1,23 @@
 //! Messages that go out are judged and accepted (fi_msg(3), fi_tagged(3)).
 ghost use Rattle.std.specs.Prelude.{◌≡◌, ◌<◌, ◌≤◌, ◌^◌, true, IsTrue, IsSome, None, length};
 ghost use Rattle.fab_base.specs.declared.limits.TheConstants.{INJECT_BYTES};
-ghost use Rattle.fab_wire.specs.Frames.{IsSound};
+ghost use Rattle.fab_link.specs.Frames.{IsSound};
 ghost use Rattle.fab_model.specs.State.{in_use};
 ghost use Rattle.fab_model.specs.Sending.{ending, head_of};
 ghost use Rattle.fab_cq.specs.Queues.{has_room};
 ghost use Rattle.fab_tx.specs.Transit.{next_item, writes_when_sent};
 ghost use Rattle.fab_core.specs.Parts.{state_of};
 ghost use Rattle.fab_core.specs.Doing.{accepted_by, lasting_transmit, sent};
-ghost use Rattle.fab_orders.specs.Orders.{order_of};
+ghost use Rattle.fab_settling.specs.Orders.{order_of};
 
 use crate::parts::Core;
 use fab_base::{Buf, Fault, INJECT_BYTES, Outcome};
-use fab_ends::calls::{CallRecord, EndsWhenSent, ThisCall, call};
-use fab_ends::ending::end;
 use fab_face::machine::Message;
 use fab_match::Matcher;
-use fab_orders::granted::may_send;
-use fab_orders::messages::{is_silent, len_of, message_head, most_of_message};
+use fab_settling::calls::{CallRecord, EndsWhenSent, ThisCall, call};
+use fab_settling::ending::end;
+use fab_settling::granted::may_send;
+use fab_settling::messages::{is_silent, len_of, message_head, most_of_message};
 use fab_tx::Outbox;
 use std::snapshot::Snapshot;
 

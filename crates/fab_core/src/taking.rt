@@ -1,35 +1,31 @@
 //! Frames come in: an item arrives with its first frame, and is whole with its last one.
-ghost use Rattle.std.specs.Prelude.{◌≡◌, ◌≢◌, ◌==◌, ◌<◌, ◌+◌, ◌≤◌, None, length, IfSome, IsSomeAnd, IsTrue, IfOk, OnOk, OnErr, Ok, true, false, not, ◌&&◌, ◌^◌, slice_set, is_some};
+ghost use Rattle.std.specs.Prelude.{◌≡◌, ◌≢◌, ◌==◌, ◌<◌, ◌+◌, ◌≤◌, None, length, IfSome, IsSomeAnd, IsTrue, IfOk, OnOk, OnErr, Ok, true, false, ◌&&◌, ◌^◌, slice_set, is_some};
 ghost use Rattle.fab_model.specs.State.{coming_from, fits};
 ghost use Rattle.fab_model.specs.Arrivals.{do_tail};
 ghost use Rattle.fab_model.specs.Receiving.{draw_due};
-ghost use Rattle.fab_wire.specs.Frames.{IsSound, frame};
-ghost use Rattle.fab_wire.specs.Joined.{is_last};
+ghost use Rattle.fab_link.specs.Frames.{IsSound, frame};
+ghost use Rattle.fab_link.specs.Joined.{is_last};
 ghost use Rattle.fab_face.specs.Acts.{Goes, Took};
 ghost use Rattle.fab_face.specs.Answers.{FrameLacks};
 ghost use Rattle.fab_face.specs.Machine.{IsNext, StayNext};
 ghost use Rattle.fab_cq.specs.Queues.{has_room};
 ghost use Rattle.fab_rx.specs.Arriving.{arriving, bare, begun_of};
 ghost use Rattle.fab_rx.specs.Results.{last_of};
-ghost use Rattle.fab_tx.specs.Transit.{answered_by, finds_answered};
 ghost use Rattle.fab_core.specs.Parts.{held_of, state_of};
-ghost use Rattle.fab_ends.specs.Ends.{answer_writes, counters_after, cq_after};
-ghost use Rattle.fab_orders.specs.Orders.{asks};
+ghost use Rattle.fab_settling.specs.Ends.{answer_writes};
+ghost use Rattle.fab_settling.specs.Orders.{asks};
 ghost use Rattle.fab_core.specs.Doing.{arrived, fed, heading, lacks_at_tail, tail, writes_at_tail};
 ghost use Rattle.fab_core.specs.Requests.{IsAwaited};
 
 use crate::callers::IntoReceive;
 use crate::parts::Core;
-use fab_base::{FrameHead, Item, ItemHead, NoMemory};
-use fab_cq::{Counters, Queue};
-use fab_ends::ending::{answer, answer_writes};
-use fab_ends::handing::{at_delivery, at_either, book, hand_last, hand_over};
-use fab_ends::serving::{is_request, serve, writes_data};
+use fab_base::{FrameHead, ItemHead, NoMemory};
 use fab_match::Matcher;
-use fab_orders::items::{asks, is_reply};
 use fab_rx::{Finished, Inbox};
-use fab_tx::Outbox;
-use std::alloc::Global;
+use fab_settling::ending::{answer, answer_writes};
+use fab_settling::handing::{book, hand_last, hand_over};
+use fab_settling::items::{asks, is_reply};
+use fab_settling::serving::{is_request, serve, writes_data};
 use std::snapshot::Snapshot;
 
 impl<M: Matcher> Core<M> {
@@ -258,19 +254,19 @@ impl<M: Matcher> Core<M> {
         } = self;
         match finished {
             Finished::Received(completed) => {
-                let due = at_either(completed.head.ack);
+                let due = completed.head.ack.at_either();
                 hand_over::<(Snapshot<Inbox<M>>, u32), IntoReceive>(
                     *alloc, cq, counters, tx, &about, due, completed,
                 );
             }
             Finished::Last(completed, released) => {
-                let due = at_either(completed.head.ack);
+                let due = completed.head.ack.at_either();
                 hand_last::<(Snapshot<Inbox<M>>, u32), IntoReceive>(
                     *alloc, cq, counters, tx, multis, &about, due, completed, released,
                 );
             }
-            Finished::Kept(head) => book(*alloc, tx, at_delivery(head.ack), source, &head),
-            Finished::Thrown(head) => book(*alloc, tx, at_either(head.ack), source, &head),
+            Finished::Kept(head) => book(*alloc, tx, head.ack.at_delivery(), source, &head),
+            Finished::Thrown(head) => book(*alloc, tx, head.ack.at_either(), source, &head),
             Finished::Request(item) => serve(
                 tx,
                 cq,

@@ -3,7 +3,7 @@ use crate::parts::Core;
 use fab_base::{Access, Buf, Fault, Refused};
 use fab_face::targets::Targets;
 use fab_match::Matcher;
-use fab_orders::granted::lacks;
+use fab_settling::granted::lacks;
 
 impl<M: Matcher> Targets for Core<M> {
     fn reg(&mut self, key: u64, access: Access, buf: Buf) -> Result<(), Refused> {

@@ -13,7 +13,7 @@ use Rattle.fab_av.specs.declared.addresses.InsertReport.{InsertReport}
 use Rattle.fab_face.specs.Held.{Held, Seen, with_machine}
 use Rattle.fab_face.specs.Acts as acts
 use Rattle.fab_face.specs.Acts.{headed, is_first, only, Act, Goes, GoesBy, MovedBy, Went}
-use Rattle.fab_wire.specs.Joined.{is_last}
+use Rattle.fab_link.specs.Joined.{is_last}
 use Rattle.fab_face.specs.Answers.{Inserts, Locally, Pops, adding}
 use Rattle.fab_doings.specs.Doings.{Did, Does, Doing, DoesBy, Had, Living, Own, Owns, Calls, Posted, Took, Writes, act_of, acts_of, doing_of, doings_by, inserted}
 use Rattle.fab_doings.specs.Law.{Adds, KeptBy, Past, past_in}

@@ -7,3 +7,9 @@ pub mod Opening
 pub mod Obeying
 pub mod alike
 mod rows
+pub mod Fixed
+pub mod Walking
+pub mod Hearing
+pub mod Saying
+pub mod Recording
+pub mod Applying

@@ -84,7 +84,7 @@ peers_plain : (opening : List Living) → map plain (map peer_in opening) ≡ ma
 peers_plain [] = refl
 peers_plain (o ∷ opening) = ap (λ ps. peer o.held.state ∷ ps) (peers_plain opening)
 
-doings_at : (pasts : List Past) (p : ℕ) (x : Past) → slice_get pasts p ≡ Some x → slice_index_or (programs pasts) p [] ≡ deeds_of x.steps
+pub doings_at : (pasts : List Past) (p : ℕ) (x : Past) → slice_get pasts p ≡ Some x → slice_index_or (programs pasts) p [] ≡ deeds_of x.steps
 doings_at [] p x e = absurd (cc)
 doings_at (y ∷ pasts) zero x e = let same : y ≡ x = cc in ap (λ (z : Past). deeds_of z.steps) same
 doings_at (y ∷ pasts) (suc p) x e = doings_at pasts p x e

@@ -6,7 +6,7 @@ use Rattle.fab_base.specs.declared.entries.Taken.{Taken}
 use Rattle.fab_base.specs.declared.items.Item.{Item}
 use Rattle.fab_base.specs.declared.operations.Written.{Written}
 use Rattle.fab_base.specs.declared.peers.LineResult.{LineResult}
-use Rattle.fab_wire.specs.Joined.{grown, is_last}
+use Rattle.fab_link.specs.Joined.{grown, is_last}
 use Rattle.fab_model.specs.State.{State}
 use Rattle.fab_face.specs.Held.{Held, begun_of}
 use Rattle.fab_face.specs.Acts.{Departs, Ends, headed, is_first}

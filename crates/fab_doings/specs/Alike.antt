@@ -7,7 +7,7 @@ use Rattle.fab_base.specs.declared.items.Item.{Item}
 use Rattle.fab_base.specs.declared.operations.Receive.{Receive}
 use Rattle.fab_base.specs.declared.operations.Written.{Written}
 use Rattle.fab_model.specs.Complete.{entry_of}
-use Rattle.fab_model.specs.Matching.{is_message}
+use Rattle.fab_base.specs.Kinds.{is_message}
 use Rattle.fab_model.specs.Views.{seen}
 use Rattle.fab_laws.specs.Matched.{Event, Got, Mark, came, cancelled, made, tells_message, wish_of, wishes}
 use Rattle.fab_laws.specs.Claimed.{lost}

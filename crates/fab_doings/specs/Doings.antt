@@ -17,7 +17,7 @@ use Rattle.fab_base.specs.declared.operations.Tally.{Tally}
 use Rattle.fab_base.specs.declared.operations.Written.{Written}
 use Rattle.fab_base.specs.declared.peers.LineResult.{LineResult}
 use Rattle.fab_base.specs.declared.peers.LineResult.TheVariants.{Done}
-use Rattle.fab_wire.specs.Joined.{is_last}
+use Rattle.fab_link.specs.Joined.{is_last}
 use Rattle.fab_model.specs.State.{State}
 use Rattle.fab_model.specs.Calls.{Call, Insert, do_call}
 use Rattle.fab_model.specs.Peers.{reading, unread}

@@ -7,7 +7,7 @@ use Rattle.std.proofs.lemmas.List.{map-append}
 use Rattle.std.proofs.lemmas.Option.{slice_get-get_or}
 use Rattle.fab_base.specs.declared.caps.Info.{Info}
 use Rattle.fab_ep.specs.Value.{Whole}
-use Rattle.fab_table.specs.declared.fabric.Fabric.{Fabric}
+use Rattle.fab_table.specs.declared.lane_table.LaneTable.{LaneTable}
 use Rattle.fab_ring.specs.declared.port.RingPort.{RingPort}
 use Rattle.fab_ring.specs.Made.{AreMade}
 use Rattle.fab_domain.specs.Domain.{AreLanes, AreReady, IsReady, port_of}
@@ -15,7 +15,7 @@ use Rattle.fab_domain.specs.Domain.{AreLanes, AreReady, IsReady, port_of}
 pub ready : (info : Info) (ports : List RingPort) → AreLanes info ports → AreReady info.peers ports
 ready info ports lanes = λ k d below. let there = slice_get-get_or ports k d below in ((lanes.1.sizes k _ there).0, (lanes.1.fresh k _ there).1)
 
-pub lanes : {E : Type 0} (r : Result (Vec RingPort Global) E) (info : Info) (peers room pool : ℕ) (table : Fabric) → peers ≡ info.peers → room ≡ info.lane → pool ≡ info.pool
+pub lanes : {E : Type 0} (r : Result (Vec RingPort Global) E) (info : Info) (peers room pool : ℕ) (table : LaneTable) → peers ≡ info.peers → room ≡ info.lane → pool ≡ info.pool
     → IfOk r (λ v. AreMade peers room pool table v.items) → IfOk r (λ v. AreLanes info v.items)
 lanes (Ok v) info peers room pool table same_peers same_room same_pool made = (
   table,

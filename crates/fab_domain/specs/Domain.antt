@@ -6,7 +6,7 @@ use Rattle.std.specs.List.{All}
 use Rattle.fab_base.specs.declared.caps.Info.{Info}
 use Rattle.fab_link.specs.Meaning.{AreFresh}
 use Rattle.fab_model.specs.Calls.{upto}
-use Rattle.fab_table.specs.declared.fabric.Fabric.{Fabric}
+use Rattle.fab_table.specs.declared.lane_table.LaneTable.{LaneTable}
 use Rattle.fab_ep.specs.Value.{Whole, opened}
 use Rattle.fab_ring.specs.declared.port.RingPort.{RingPort}
 use Rattle.fab_ring.specs.Ports.{peers_of, out_of, in_of}
@@ -26,7 +26,7 @@ AreReady peers ports = All (IsReady peers) ports
 
 -- new ports of all peers, in order of their numbers, over one table
 abbrev pub AreLanes : Info → List RingPort → Type 0
-AreLanes info ports = (table : Fabric) × AreMade info.peers info.lane info.pool table ports
+AreLanes info ports = (table : LaneTable) × AreMade info.peers info.lane info.pool table ports
 
 -- ---- the endpoints
 

@@ -5,9 +5,9 @@ use Rattle.fab_face.specs.Held.{Seen}
 use Rattle.fab_ep.specs.Value.{Whole}
 use Rattle.fab_ring.specs.Ports.{in_of, moves_of, number_of, out_of, peers_of, table_of}
 use Rattle.fab_ring.specs.declared.port.RingPort.{RingPort}
-use Rattle.fab_table.specs.declared.fabric.Fabric.{Fabric}
+use Rattle.fab_table.specs.declared.lane_table.LaneTable.{LaneTable}
 
-unfoldable pub ring_seen : Whole RingPort → Seen Fabric
+unfoldable pub ring_seen : Whole RingPort → Seen LaneTable
 ring_seen e = record {
   held = e.held;
   log = e.log;

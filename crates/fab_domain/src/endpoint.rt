@@ -4,7 +4,7 @@
 //! compares names alone. What contracts see of it is `ring_seen`.
 ghost use Rattle.std.specs.Prelude.{◌≡◌, true};
 ghost use Rattle.fab_ring.specs.Ports.{peers_of};
-ghost use Rattle.fab_table.specs.declared.fabric.Fabric.{Fabric};
+ghost use Rattle.fab_table.specs.declared.lane_table.LaneTable.{LaneTable};
 ghost use Rattle.fab_domain.specs.Domain.{port_of};
 ghost use Rattle.fab_domain.specs.Seen.{ring_seen};
 
@@ -105,7 +105,7 @@ impl Sleeps for RingEndpoint {
 impl Sees for RingEndpoint {
     ghost fixed = { true };
 
-    ghost Home = { Fabric };
+    ghost Home = { LaneTable };
 
     ghost seen = { ring_seen };
 

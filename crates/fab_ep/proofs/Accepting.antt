@@ -1,41 +1,31 @@
 -- A message is accepted, and goes out as far as it may.
-use Rattle.std.proofs.Common.{◌⊎◌, inl, inr, ◌≡◌, ◌≢◌, ◌<◌, ◌≤◌, ◌+◌, ℕ, zero, suc, Bool, true, false, ◌&&◌, ◌||◌, List, [], ◌∷◌, ◌++◌, length, length-append, get_or-set_same, get_or-set_other, append-nil, Option, Some, None, refl, sym, ap, ◌∙◌, subst, arith}
-use Rattle.std.specs.Prelude.{slice_index, slice_get}
+use Rattle.std.proofs.Common.{◌⊎◌, inl, inr, ◌≡◌, ◌≢◌, ◌<◌, ◌≤◌, ◌+◌, ℕ, Bool, true, false, ◌&&◌, ◌||◌, List, [], ◌∷◌, ◌++◌, length, length-append, get_or-set_same, get_or-set_other, append-nil, Option, Some, None, refl, sym, ap, ◌∙◌, subst, arith}
+use Rattle.std.specs.Prelude.{slice_index}
 use Rattle.std.specs.List.{list_any}
 use Rattle.std.proofs.lemmas.Bool.{cases_eq}
-use Rattle.fab_base.specs.declared.faults.Fault.{Fault}
 use Rattle.fab_base.specs.declared.items.Item.{Item}
 use Rattle.fab_base.specs.declared.operations.Held.{Held as Waiting}
 use Rattle.fab_base.specs.declared.peers.LineResult.TheVariants.{Done}
+use Rattle.fab_base.proofs.Lists.{prefix_get as get_append, none_past as past_end}
+use Rattle.fab_base.proofs.Numbers.{rose_later as rose_on}
 use Rattle.fab_model.specs.State.{State, Transmitting, accepted_for, held_for, lookup}
-use Rattle.fab_model.specs.Sending.{AreFenced, Order, operation_of, is_busy, let_out, transmit_fault, transmit, transmit_to}
-use Rattle.fab_model.specs.Calls.{Transmit, answer, do_call}
+use Rattle.fab_model.specs.Sending.{AreFenced, Order, operation_of, is_busy, let_out, transmit, transmit_to}
+use Rattle.fab_model.specs.Calls.{Transmit, do_call}
 use Rattle.fab_model.proofs.Fences.{waits_has}
 use Rattle.fab_model.proofs.Letting.{going_out, accepts_held, accepts_at_once}
+use Rattle.fab_model.proofs.Answering.{is_transmitted}
 use Rattle.fab_face.specs.Held.{due, IsPledged, Held, Lanes, Seen, next_item, next_frame}
 use Rattle.fab_face.specs.Machine.{IsSteady, StayNext}
 use Rattle.fab_face.proofs.Repaid.{did_due, did_pledged, drew_due, drew_pledged, repaid_still}
 use Rattle.fab_face.specs.Acts.{Act, Did, Drew, DoesCall, Goes, Ported, Went, is_post}
 use Rattle.fab_face.specs.Answers.{SawFull, Sends}
 use Rattle.fab_face.proofs.Joining.{went_then, ported_same}
+use Rattle.fab_face.proofs.Going.{placed_next}
 use Rattle.fab_ep.specs.Tries.{IsTied}
 use Rattle.fab_ep.specs.Sends.{Admits, LetsOut, IsOnly, IsFree}
 use Rattle.fab_ep.proofs.Admitting.{went_as, posts_keep}
 use Rattle.fab_ep.proofs.Pushing.{any_append}
-use Rattle.fab_ep.proofs.Falling.{get_append}
 use Rattle.fab_ep.proofs.Letting.{none_next}
-use Rattle.fab_ep.proofs.Taking.{placed_next}
-use Rattle.fab_ep.proofs.Counts.{rose_on}
-
--- ---- what the machine makes of the call
-
-done_by : (fault : Option Fault) (s after t : State) → answer fault s after ≡ (Done, t) → t ≡ after
-done_by None s after t is = sym (ap (λ x. x.1) is)
-done_by (Some why) s after t is = absurd (cc (ap (λ x. x.0) is))
-
-is_transmitted : (s t : State) (o : Order) → do_call s (Transmit o) ≡ (Done, t) → t ≡ transmit s o
-unfolding do_call
-is_transmitted s t o is = done_by (transmit_fault s o) s (transmit s o) t is
 
 -- ---- what a fence does
 
@@ -81,11 +71,6 @@ joins_by s o (Some t) fenced is = rw (is, transmit) (joins_to s o t fenced)
 pub joins : (s t : State) (o : Order) → AreFenced s.tx → do_call s (Transmit o) ≡ (Done, t) → Joins s t
 joins s t o fenced is = subst (λ (x : State). Joins s x) (sym (is_transmitted s t o is)) (joins_by s o (lookup s.av o.dest) fenced refl)
 
-past_end : {X : Type 0} (xs : List X) (k : ℕ) → slice_get xs k ≡ None → length xs ≤ k
-past_end [] k is = omega arith
-past_end (x ∷ xs) zero is = absurd (cc)
-past_end (x ∷ xs) (suc k) is = (let more = past_end xs k is in omega (arith, more))
-
 -- what is next stays so
 pub next_stays : (s u : State) (d : ℕ) (item : Item) → d < length s.tx.accepted → Joins s u → next_item s d ≡ Some item → next_item u d ≡ Some item
 next_stays s u d item below j is =
@@ -107,7 +92,7 @@ only_one h t d below j none =
 
 -- ---- between calls
 
-none_item : (h : Held) (d : ℕ) → next_frame h d ≡ None → next_item h.state d ≡ None
+pub none_item : (h : Held) (d : ℕ) → next_frame h d ≡ None → next_item h.state d ≡ None
 none_item h d none = by (next_item h.state d) refl
   where
     by : (o : Option Item) → next_item h.state d ≡ o → next_item h.state d ≡ None

@@ -7,7 +7,8 @@ use Rattle.fab_base.specs.declared.faults.Fault.TheVariants.{Again, NotSupported
 use Rattle.fab_base.specs.declared.faults.Busy.TheVariants.{TxFull, LogFull}
 use Rattle.fab_base.specs.declared.faults.NoMemory.{NoMemory}
 use Rattle.fab_base.specs.declared.peers.LineResult.TheVariants.{Refused}
-use Rattle.fab_wire.specs.Joined.{is_last}
+use Rattle.fab_base.proofs.Numbers.{le_is as is_full_by}
+use Rattle.fab_link.specs.Joined.{is_last}
 use Rattle.fab_model.specs.State.{State, in_use}
 use Rattle.fab_model.specs.Sending.{Order, first_fault, transmit_fault, transmit}
 use Rattle.fab_model.specs.Calls.{Call, Transmit, answer, do_call}
@@ -102,9 +103,6 @@ early_not why early is = absurd (cc (rw is at early))
 
 early_full : (why : Fault) (n : ℕ) → is_early why ≡ true → why ≢ Again (TxFull n)
 early_full why n early is = absurd (cc (rw is at early))
-
-is_full_by : (most n : ℕ) → nat_le most n ≡ true → most ≤ n
-is_full_by most n is = grind (arith, nat_tests, is)
 
 not_full : (most n : ℕ) → nat_le most n ≡ false → most ≤ n → ⊥
 not_full most n is full = grind (arith, nat_tests, is, full)

@@ -1,9 +1,7 @@
 -- How many acts of a kind there are, and counts that never fall.
-use Rattle.std.proofs.Common.{◌≡◌, ◌≤◌, ◌+◌, inl, inr, ℕ, Bool, true, false, List, [], ◌∷◌, ◌++◌, refl, ap, ◌∙◌, arith, cond}
+use Rattle.std.proofs.Common.{◌≡◌, ◌+◌, Bool, true, false, List, [], ◌∷◌, ◌++◌, refl, ap, ◌∙◌, cond}
 use Rattle.std.specs.Prelude.{count_by}
-use Rattle.std.proofs.lemmas.Bool.{cases_eq}
 use Rattle.std.proofs.lemmas.List.Sums.{sum_by-append, sum_by_push}
-use Rattle.fab_base.specs.Counts.{Rose}
 use Rattle.fab_face.specs.Acts.{Act, Did, Took, Posted, Drew, Had, is_draw, is_post, is_take}
 use Rattle.fab_face.specs.Answers.{AllAre}
 
@@ -18,10 +16,3 @@ draws_none (Took source f ∷ acts) are = absurd (cc)
 draws_none (Posted dest f ∷ acts) are = absurd (cc)
 draws_none (Drew ∷ acts) are = draws_none acts are
 draws_none (Had ∷ acts) are = absurd (cc)
-
-pub rose_on : (a b c : ℕ) → a ≤ b → Rose b c → Rose a c
-rose_on a b c le (inl less) = inl (omega (arith, less, le))
-rose_on a b c le (inr last) = (let same = last.0 in elim (cases_eq a c) [
-  | inl at ↦ inr (at, last.1)
-  | inr under ↦ inl (omega (arith, under, same, le))
-])

@@ -7,6 +7,7 @@ use Rattle.std.proofs.lemmas.Grind.{flat_map-append}
 use Rattle.std.proofs.lemmas.List.Sums.{sum_by-append}
 use Rattle.fab_base.specs.Counts.{Rose}
 use Rattle.fab_base.specs.declared.frames.Frame.{Frame}
+use Rattle.fab_base.proofs.Numbers.{rose_later as rose_on}
 use Rattle.fab_face.specs.Held.{Seen}
 use Rattle.fab_face.specs.Acts.{Act, Did, Took, Posted, Drew, Had, Went, is_draw, is_post, is_take, only, posted_by, taken_by}
 use Rattle.fab_face.specs.Answers.{AllAre, SawEmpty, SawFull}
@@ -16,7 +17,7 @@ use Rattle.fab_ep.specs.declared.lanes.Lane.TheVariants.{To, From}
 use Rattle.fab_ep.specs.Circle.{Follows, InCircle, IsOf, StandsAt, ahead, round}
 use Rattle.fab_ep.specs.Fairness.{EachHasItsTurn, HadNone, HadTurn, HasNone, Lap, MayWant, OneGave, Poll, Polls, Serves, frames, frames_of, moved}
 use Rattle.fab_ep.proofs.Circle.{ahead_below, ahead_here, ahead_nearer, ahead_one, follows_of, round_back, some_of, stands_next, stands_none}
-use Rattle.fab_ep.proofs.Counts.{count_append, draws_none, rose_on}
+use Rattle.fab_ep.proofs.Counts.{count_append, draws_none}
 
 -- ---- how many frames moved
 

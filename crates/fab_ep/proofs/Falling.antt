@@ -1,14 +1,12 @@
 -- With each frame posted to a peer, less waits for it.
-use Rattle.std.proofs.Common.{◌≡◌, ◌≢◌, ◌<◌, ◌+◌, ◌-◌, min, ℕ, zero, suc, Bool, true, false, List, [], ◌∷◌, ◌++◌, length, drop, get_or-set_same, Option, Some, None, refl, sym, ap, ◌∙◌, subst, arith}
-use Rattle.std.specs.Prelude.{slice_get, slice_index}
+use Rattle.std.proofs.Common.{◌≡◌, ◌≢◌, ◌<◌, ◌+◌, ◌-◌, min, ℕ, Bool, true, false, [], ◌∷◌, length, drop, get_or-set_same, Option, Some, None, refl, sym, ap, ◌∙◌, subst, arith}
+use Rattle.std.specs.Prelude.{slice_index}
 use Rattle.std.specs.List.{sum_by}
-use Rattle.std.proofs.Math.Seq.{drop-cons}
-use Rattle.std.proofs.lemmas.Option.{slice_get_within, get_or_from_slice_get}
 use Rattle.std.proofs.lemmas.List.Sums.{sum_by-cons}
 use Rattle.std.proofs.lemmas.Bool.{eqb-false}
 use Rattle.fab_base.specs.declared.frames.Frame.{Frame}
 use Rattle.fab_base.specs.declared.items.Item.{Item}
-use Rattle.fab_wire.specs.Joined.{is_last}
+use Rattle.fab_link.specs.Joined.{is_last}
 use Rattle.fab_model.specs.State.{accepted_for, held_for}
 use Rattle.fab_model.specs.Sending.{items_of, do_sent}
 use Rattle.fab_face.specs.Machine.{IsSteady}
@@ -16,21 +14,13 @@ use Rattle.fab_face.specs.Held.{Held, piece, next_item, next_frame}
 use Rattle.fab_face.specs.Acts.{Departs, Goes, Posted, Went}
 use Rattle.fab_face.specs.Held.{Seen}
 use Rattle.std.proofs.Common.{Ok}
+use Rattle.fab_base.proofs.Lists.{prefix_get as get_append, drop_here}
+use Rattle.fab_model.proofs.Unchanged.{sent_raised as sent_sent}
 use Rattle.fab_ep.specs.declared.endpoint.Tried.{Tried}
 use Rattle.fab_ep.specs.declared.endpoint.Tried.TheVariants.{Moved, Nothing, Held as HeldBack, Short}
 use Rattle.fab_ep.specs.Tries.{PushesOut, has_moved, left_of, left_for}
-use Rattle.fab_ep.proofs.Sent.{items_for, sent_whole, sent_sent}
+use Rattle.fab_ep.proofs.Sent.{items_for, sent_whole}
 use Rattle.fab_ep.proofs.Posting.{place_within}
-
-pub drop_here : {X : Type 0} (xs : List X) (k : ℕ) (x : X) → slice_get xs k ≡ Some x → drop k xs ≡ x ∷ drop (k + 1) xs
-drop_here xs k x at =
-    let e : k + 1 ≡ suc k = omega arith in
-    rw e (drop-cons xs k x (slice_get_within xs k x at) ∙ ap (λ y. y ∷ drop (suc k) xs) (get_or_from_slice_get xs k x x at))
-
-pub get_append : {X : Type 0} (xs ys : List X) (k : ℕ) (x : X) → slice_get xs k ≡ Some x → slice_get (xs ++ ys) k ≡ Some x
-get_append [] ys k x is = absurd (cc)
-get_append (y ∷ xs) ys zero x is = is
-get_append (y ∷ xs) ys (suc k) x is = get_append xs ys k x is
 
 -- the item that the frame is of
 of_next : (h : Held) (d : ℕ) (f : Frame) → next_frame h d ≡ Some f → (item : Item) × (next_item h.state d ≡ Some item) × (piece item (slice_index h.places d) ≡ f)

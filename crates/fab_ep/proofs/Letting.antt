@@ -7,9 +7,11 @@ use Rattle.std.proofs.lemmas.Bool.{and_from}
 use Rattle.std.proofs.lemmas.List.Folds.{list_all-append}
 use Rattle.std.proofs.lemmas.Option.{slice_get_past}
 use Rattle.fab_base.specs.declared.frames.Frame.{Frame}
-use Rattle.fab_wire.specs.Joined.{is_last}
+use Rattle.fab_base.proofs.Bools.{or_true, or_false}
+use Rattle.fab_link.specs.Joined.{is_last}
 use Rattle.fab_model.specs.State.{State, Transmitting, accepted_for, held_for}
 use Rattle.fab_model.specs.Sending.{do_sent}
+use Rattle.fab_model.proofs.Unchanged.{sent_raised as sent_sent}
 use Rattle.fab_face.specs.declared.events.Event.TheVariants.{Sent as Transmitted}
 use Rattle.fab_face.specs.Held.{Held, Seen, next_item, next_frame}
 use Rattle.fab_face.specs.Acts.{Act, Posted, Departs, Goes, Went, only, is_post, posted_to, posted_by}
@@ -20,8 +22,8 @@ use Rattle.fab_ep.specs.declared.endpoint.Tried.TheVariants.{Moved, Nothing, Hel
 use Rattle.fab_ep.specs.Tries.{PostsOut, has_moved, left_for}
 use Rattle.fab_ep.specs.Sends.{IsOnly, LetsOutOne, LetsOut}
 use Rattle.fab_ep.proofs.Posting.{other_peer}
-use Rattle.fab_ep.proofs.Pushing.{or_true, or_false, any_append}
-use Rattle.fab_ep.proofs.Sent.{transmitting_parts, sent_alone, sent_sent}
+use Rattle.fab_ep.proofs.Pushing.{any_append}
+use Rattle.fab_ep.proofs.Sent.{transmitting_parts, sent_alone}
 use Rattle.fab_ep.proofs.Fairness.{full_on}
 use Rattle.fab_ep.proofs.Turning.{went_calm}
 use Rattle.fab_ep.proofs.Falling.{left_falls}

@@ -10,7 +10,7 @@ mod Falling
 mod Admitting
 mod Letting
 mod Looks
-mod Accepting
+pub mod Accepting
 mod Reading
 mod Answering
 mod Kept

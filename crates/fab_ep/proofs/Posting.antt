@@ -6,8 +6,9 @@ use Rattle.std.proofs.lemmas.Bool.Decides.{nat_tests}
 use Rattle.fab_base.specs.Counts.{Rose}
 use Rattle.fab_base.specs.declared.frames.Frame.{Frame}
 use Rattle.fab_base.specs.declared.items.Item.{Item}
-use Rattle.fab_wire.specs.Joined.{is_last}
-use Rattle.fab_wire.proofs.Lanes.{last_head-push}
+use Rattle.fab_base.proofs.Numbers.{same_number as same_peer}
+use Rattle.fab_link.specs.Joined.{is_last}
+use Rattle.fab_link.proofs.Lanes.{last_head-push}
 use Rattle.fab_link.specs.Meaning.{Outgoing, Incoming, Noticed, Others, end_of, taken_end}
 use Rattle.fab_face.specs.Held.{IsOut, IsOpen, Held, Lanes, Seen, IsPlaced, piece, next_item, next_frame}
 use Rattle.fab_face.specs.Acts.{Goes, Posted, Took, Ported, only}
@@ -18,9 +19,6 @@ use Rattle.fab_face.proofs.Repaid.{posted_pledged, repaid_posted}
 use Rattle.fab_model.specs.State.{fits}
 use Rattle.fab_model.specs.Sending.{do_sent}
 use Rattle.fab_ep.specs.Tries.{IsTied}
-
-pub same_peer : (k : ℕ) → (k == k) ≡ true
-same_peer k = eq-eqb k k refl
 
 pub other_peer : (k d : ℕ) → d ≢ k → (k == d) ≡ false
 other_peer k d other = grind (arith, nat_tests)

@@ -8,7 +8,8 @@ use Rattle.std.proofs.lemmas.List.Folds.{list_all-append}
 use Rattle.fab_base.specs.declared.faults.NoMemory.{NoMemory}
 use Rattle.fab_base.specs.declared.frames.Frame.{Frame}
 use Rattle.fab_base.specs.declared.items.Item.{Item}
-use Rattle.fab_wire.specs.Joined.{is_last}
+use Rattle.fab_base.proofs.Bools.{or_true, or_false, or_assoc}
+use Rattle.fab_link.specs.Joined.{is_last}
 use Rattle.fab_face.specs.declared.events.Event.{Event}
 use Rattle.fab_face.specs.declared.events.Event.TheVariants.{Sent as Transmitted}
 use Rattle.fab_face.specs.Held.{Seen, piece, next_frame}
@@ -28,18 +29,6 @@ last_by item place within short = last_is item place (at place item.head.total w
   where
     at : (p t : ℕ) → p ≤ t → nat_le (t - p) 4096 ≡ true → p + min 4096 (t - p) ≡ t
     at p t within short = grind (arith, nat_tests, within, short)
-
-pub or_true : (b : Bool) → (b || true) ≡ true
-or_true true = refl
-or_true false = refl
-
-pub or_false : (b : Bool) → (b || false) ≡ b
-or_false true = refl
-or_false false = refl
-
-pub or_assoc : (a b c : Bool) → ((a || b) || c) ≡ (a || (b || c))
-or_assoc true b c = refl
-or_assoc false b c = refl
 
 pub any_append : (test : Act → Bool) (xs ys : List Act) → list_any test (xs ++ ys) ≡ (list_any test xs || list_any test ys)
 any_append test [] ys = refl

@@ -12,6 +12,7 @@ use Rattle.fab_model.specs.State.{State, Transmitting, accepted_for, held_for, w
 use Rattle.fab_model.specs.Sending.{ending, transmitting, is_busy, let_out, held_back, items_of, letting_out, going_on, end_with, do_sent, class_of}
 use Rattle.fab_model.proofs.Fences.{out_and_back}
 use Rattle.fab_model.proofs.Letting.{stays}
+use Rattle.fab_model.proofs.Unchanged.{sent_raised as sent_sent}
 use Rattle.fab_face.specs.Held.{next_item}
 
 -- the parts that an end keeps, and the entries only become more
@@ -101,11 +102,6 @@ going_whole t tx lt here =
 
 sent_tx : (s : State) (t : ℕ) → (do_sent s t).tx ≡ sent_on t s.tx
 sent_tx s t = let k = keeps_sent s t in k.tx
-
-pub sent_sent : (s : State) (t : ℕ) → (do_sent s t).tx.sent ≡ raise s.tx.sent t
-sent_sent s t =
-    let parts = transmitting_parts t s.tx in
-    ap (λ (x : Transmitting). x.sent) (sent_tx s t) ∙ on_as (λ tx. tx.sent ≡ raise s.tx.sent t) t s.tx parts.1 ((going_parts t (transmitting t s.tx)).0 ∙ parts.1)
 
 pub sent_ops : (s : State) (t : ℕ) → (do_sent s t).tx.ops ≡ s.tx.ops
 sent_ops s t =

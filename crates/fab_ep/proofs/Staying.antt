@@ -10,10 +10,11 @@ use Rattle.fab_base.specs.declared.faults.NoMemory.{NoMemory}
 use Rattle.fab_base.specs.declared.items.Outcome.TheVariants.{Done}
 use Rattle.fab_base.specs.declared.operations.Held.{Held as Waiting}
 use Rattle.fab_base.specs.declared.operations.Operation.{Operation}
+use Rattle.fab_base.proofs.Bools.{or_false, or_assoc}
 use Rattle.fab_model.specs.Matching.{remove_first}
 use Rattle.fab_model.specs.State.{State, Completions, Transmitting, accepted_for, held_for, fits, with_tx}
 use Rattle.fab_model.specs.Sending.{ending, is_busy, let_out, operations_from, letting_out, going_on, is_of_item, transmitting, end_with, do_sent}
-use Rattle.fab_wire.specs.Joined.{is_last}
+use Rattle.fab_link.specs.Joined.{is_last}
 use Rattle.fab_face.specs.Held.{Held, Seen, next_frame}
 use Rattle.fab_face.specs.Acts.{Act, Went, Departs, is_post}
 use Rattle.fab_face.specs.Answers.{AllAre, HasPlaces, IsTried}
@@ -25,7 +26,7 @@ use Rattle.fab_ep.specs.Tries.{Calm, TriesOut, PushedTo, Pushed, Pushes, HeldSta
 use Rattle.fab_ep.proofs.Posting.{other_peer}
 use Rattle.fab_ep.proofs.Sent.{on_as, sent_on, sent_is_none, sent_is_some, sent_next, keeps_sent}
 use Rattle.fab_ep.proofs.Fairness.{full_on}
-use Rattle.fab_ep.proofs.Pushing.{or_false, or_assoc, any_append}
+use Rattle.fab_ep.proofs.Pushing.{any_append}
 
 -- ---- the operation that ends with an item for another peer
 

@@ -1,5 +1,5 @@
 -- A frame is looked at, and taken.
-use Rattle.std.proofs.Common.{◌⊎◌, inl, inr, ◌≡◌, ◌<◌, ◌≤◌, ◌+◌, ℕ, zero, suc, Bool, true, false, List, [], ◌∷◌, ◌++◌, length, length-append, get_or-set_same, get_or-set_other, append-nil, append_assoc, Option, Some, None, Result, Err, refl, sym, ap, ◌∙◌, subst, arith}
+use Rattle.std.proofs.Common.{◌⊎◌, inl, inr, ◌≡◌, ◌<◌, ◌≤◌, ◌+◌, ℕ, Bool, true, false, List, [], ◌∷◌, ◌++◌, length, length-append, get_or-set_same, get_or-set_other, append-nil, append_assoc, Option, Some, None, Result, Err, refl, sym, ap, ◌∙◌, subst, arith}
 use Rattle.std.specs.Prelude.{slice_index, slice_set}
 use Rattle.std.proofs.lemmas.Bool.{cases_eq, eqb-true}
 use Rattle.fab_base.specs.Counts.{Rose}
@@ -8,12 +8,12 @@ use Rattle.fab_base.specs.declared.frames.FrameRef.{FrameRef}
 use Rattle.fab_base.specs.declared.frames.FrameHead.{FrameHead}
 use Rattle.fab_base.specs.declared.items.Item.{Item}
 use Rattle.fab_base.specs.declared.items.ItemHead.{ItemHead}
-use Rattle.fab_wire.specs.Frames.{lent_frame, MayCome}
-use Rattle.fab_wire.specs.Joined.{is_last, grown}
+use Rattle.fab_link.specs.Frames.{lent_frame, MayCome}
+use Rattle.fab_link.specs.Joined.{is_last, grown}
 use Rattle.fab_link.specs.Meaning.{Outgoing, Incoming, Others, Fronted, advanced, end_of, taken_end}
 use Rattle.fab_model.specs.State.{State}
 use Rattle.fab_face.proofs.Repaid.{repaid_still, repaid_took, took_owes}
-use Rattle.fab_face.specs.Held.{due, IsPledged, Held, Lanes, Seen, IsPlaced, IsGathered, next_item, begun_of}
+use Rattle.fab_face.specs.Held.{due, IsPledged, Held, Lanes, Seen, IsGathered, next_item, begun_of}
 use Rattle.fab_face.specs.Acts.{Took, Ported, MovedBy, Went, Goes, Ends, only, is_first, ways_of}
 use Rattle.fab_face.specs.Answers.{LentLacks, FrameLacks, MayNeed}
 use Rattle.fab_face.specs.declared.events.Event.{Event}
@@ -21,9 +21,11 @@ use Rattle.fab_face.specs.declared.events.Event.TheVariants.{Head as Headed, Tai
 use Rattle.fab_face.proofs.Tied.{gathered_first, gathered_next, gathered_last, gathered_more}
 use Rattle.fab_face.specs.Machine.{IsSteady, IsNext, StayNext}
 use Rattle.fab_base.specs.declared.faults.NoMemory.{NoMemory}
+use Rattle.fab_base.proofs.Numbers.{same_number as same_peer, le_same as no_less_same}
+use Rattle.fab_face.proofs.Going.{placed_next}
 use Rattle.fab_ep.specs.declared.endpoint.Tried.{Tried}
 use Rattle.fab_ep.specs.Tries.{IsTied, CalmIn, TriesIn}
-use Rattle.fab_ep.proofs.Posting.{same_peer, other_peer, still_out, still_in, in_here, in_other, out_still}
+use Rattle.fab_ep.proofs.Posting.{other_peer, still_out, still_in, in_here, in_other, out_still}
 
 -- ---- looking
 
@@ -35,9 +37,6 @@ pub record Same {Home : Type 0} (a b : Lanes Home) (source : ℕ) : Type 0 where
   pub peers : b.peers ≡ a.peers
   pub home : b.home ≡ a.home
   pub in_list : b.in_list ≡ a.in_list
-
-no_less_same : (n m : ℕ) → m ≡ n → n ≤ m
-no_less_same n m is = omega (arith, is)
 
 pub no_less_rose : (n m : ℕ) → Rose n m → n ≤ m
 no_less_rose n m (inl less) = omega (arith, less)
@@ -177,11 +176,6 @@ module _ {Home : Type 0} where
 pub next_comes : (end : Option FrameHead) (u : Option Item) (f : Frame) → IsGathered end u → MayCome end f → IsNext u f
 next_comes end None f gathered comes = gathered_first end f gathered comes
 next_comes end (Some item) f gathered comes = gathered_next end item f gathered comes
-
-pub placed_next : (end : Option FrameHead) (n : ℕ) (o o' : Option Item) → ((item : Item) → o ≡ Some item → o' ≡ Some item) → IsPlaced end n o → IsPlaced end n o'
-placed_next end zero o o' stays placed = placed
-placed_next end (suc k) None o' stays placed = absurd placed
-placed_next end (suc k) (Some item) o' stays placed = rw (stays item refl) placed
 
 -- how much came with the frame
 came_to : (end : Option FrameHead) (u : Option Item) (f : Frame) → IsGathered end u → IsNext u f → length f.bytes ≡ f.head.len → (length (grown u f).bytes ≡ f.head.from + f.head.len) × (f.head.from ≤ f.head.item.total)

@@ -1,7 +1,7 @@
 -- Steps of progress, one after another.
 use Rattle.std.proofs.Common.{◌≡◌, ◌≢◌, ◌<◌, ◌≤◌, ◌+◌, ◌-◌, ◌⊎◌, inl, inr, ℕ, Bool, true, false, ◌||◌, List, [], ◌∷◌, ◌++◌, append-nil, append_assoc, Some, None, Result, Ok, Err, refl, sym, ap, ◌∙◌, subst, arith}
 use Rattle.std.specs.Prelude.{count_by, ◌↔◌}
-use Rattle.std.proofs.lemmas.Bool.{cases_eq, and_from}
+use Rattle.std.proofs.lemmas.Bool.{cases_eq, and_from, or_left, or_right, or_cases as or_either}
 use Rattle.std.proofs.lemmas.List.Folds.{list_all-append}
 use Rattle.fab_base.specs.declared.frames.Frame.{Frame}
 use Rattle.fab_base.specs.declared.faults.NoMemory.{NoMemory}
@@ -33,20 +33,9 @@ use Rattle.fab_ep.proofs.Fairness.{Laps, empty_on, full_on, had_before, had_now,
 all_append : (test : Act → Bool) (xs ys : List Act) → AllAre test xs → AllAre test ys → AllAre test (xs ++ ys)
 all_append test xs ys p q = list_all-append test xs ys ∙ and_from _ _ p q
 
-or_left : (a b : Bool) → a ≡ true → (a || b) ≡ true
-or_left a b is = rw is refl
-
-or_right : (a b : Bool) → b ≡ true → (a || b) ≡ true
-or_right true b is = refl
-or_right false b is = is
-
 pub not_true : (b : Bool) → b ≢ true → b ≡ false
 not_true true other = absurd (other refl)
 not_true false other = refl
-
-or_either : (a b : Bool) → (a || b) ≡ true → (a ≡ true) ⊎ (b ≡ true)
-or_either true b is = inl refl
-or_either false b is = inr is
 
 -- the log was not short before, so it is short behind where it was short in this step
 was_short : (w n : Turn) (t : Tried) (b : Bool) → w.short ≡ false → n.short ≡ (w.short || is_short t) → n.short ≡ b → is_short t ≡ b

@@ -3,7 +3,7 @@
 use Rattle.std.specs.Prelude.{◌≡◌, ◌≢◌, ℕ, ◌+◌, ◌≤◌, ◌<◌, ◌⊎◌, Bool, true, false, ◌||◌, List, [], ◌∷◌, ◌++◌, nat_le, length, Some, None, slice_index}
 use Rattle.std.specs.List.{list_any}
 use Rattle.fab_base.specs.declared.frames.Frame.{Frame}
-use Rattle.fab_wire.specs.Joined.{is_last}
+use Rattle.fab_link.specs.Joined.{is_last}
 use Rattle.fab_model.specs.State.{accepted_for, fits, held_for, in_use, lookup}
 use Rattle.fab_model.specs.Sending.{AreFenced, do_sent}
 use Rattle.fab_model.specs.Calls.{Call, do_call}

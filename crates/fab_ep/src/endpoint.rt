@@ -2,7 +2,7 @@
 ghost use Rattle.std.specs.Prelude.{◌≡◌, ◌≢◌, None, ◌<◌, ◌≤◌, ◌+◌, ◌∷◌, ◌++◌, [], ℕ, Bool, true, false, ◌||◌, length, IfOk, IfErr, IfSome, IfNone, Ok, OnErr, Some};
 ghost use Rattle.std.specs.VecDeque.{deque_len, deque_capacity};
 ghost use Rattle.fab_base.specs.declared.frames.Frame.{Frame};
-ghost use Rattle.fab_wire.specs.Joined.{is_last};
+ghost use Rattle.fab_link.specs.Joined.{is_last};
 ghost use Rattle.fab_link.specs.Meaning.{Others};
 ghost use Rattle.fab_face.specs.Held.{IsOpen, next_frame};
 ghost use Rattle.fab_face.specs.Acts.{only};

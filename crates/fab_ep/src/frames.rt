@@ -1,8 +1,8 @@
 //! One frame posted over any port: what a transmit call and progress do again and again.
 ghost use Rattle.std.specs.Prelude.{◌≡◌, ◌≢◌, ◌<◌, ◌≤◌, ◌∷◌, [], Ok, true, false, Some, OnErr};
 ghost use Rattle.fab_link.specs.Meaning.{Others, Repays, end_of};
-ghost use Rattle.fab_wire.specs.Cut.{IsItem};
-ghost use Rattle.fab_wire.specs.Frames.{IsSound};
+ghost use Rattle.fab_link.specs.Cut.{IsItem};
+ghost use Rattle.fab_link.specs.Frames.{IsSound};
 ghost use Rattle.fab_face.specs.Held.{IsPlaced, piece};
 ghost use Rattle.fab_ep.specs.Tries.{next_of};
 ghost use Rattle.fab_face.specs.Ports.{lanes_in};

@@ -1,6 +1,6 @@
 //! An endpoint over a plain port, whose frames are moved out and brought by hand.
 ghost use Rattle.std.specs.Prelude.{◌≡◌, ℕ, ◌<◌, ◌+◌, ◌++◌, ◌∷◌, [], length, OnOk, OnErr, IfErr, IfSome, IfNone};
-ghost use Rattle.fab_wire.specs.Frames.{last_head, MayCome};
+ghost use Rattle.fab_link.specs.Frames.{last_head, MayCome};
 ghost use Rattle.fab_link.specs.Plain.{lane_at, left, in_of, with_lane};
 
 use crate::endpoint::Endpoint;

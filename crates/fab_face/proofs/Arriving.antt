@@ -7,8 +7,6 @@ use Rattle.std.proofs.lemmas.Bool.{cases_eq, eqb-true}
 use Rattle.std.proofs.lemmas.Bool.Decides.{nat_tests}
 use Rattle.fab_base.specs.declared.items.Item.{Item}
 use Rattle.fab_base.specs.declared.items.ItemHead.{ItemHead}
-use Rattle.fab_base.specs.declared.items.Ack.{Ack}
-use Rattle.fab_base.specs.declared.items.Ack.TheVariants.{Nothing, Delivery, Match}
 use Rattle.fab_base.specs.declared.items.Kind.{Kind}
 use Rattle.fab_base.specs.declared.items.Kind.TheVariants.{Msg, TagMsg, WriteReq, ReadReq, AtomicReq, Reply}
 use Rattle.fab_base.specs.declared.items.Outcome.{Outcome}
@@ -18,13 +16,14 @@ use Rattle.fab_base.specs.declared.operations.Arrival.{Arrival}
 use Rattle.fab_base.specs.declared.operations.Coming.{Coming}
 use Rattle.fab_base.specs.declared.operations.Coming.TheVariants.{Into, Keep, Throw, Request, Answer}
 use Rattle.fab_base.specs.declared.operations.Operation.{Operation}
-use Rattle.fab_model.specs.Matching.{is_message}
+use Rattle.fab_base.specs.Kinds.{at_delivery, at_match, is_message}
 use Rattle.fab_model.specs.State.{State, Receiving, Transmitting, held_for, coming_from, with_rx, with_tx}
-use Rattle.fab_model.specs.Complete.{at_delivery, at_match, book, fill, release, release_multi, reply}
+use Rattle.fab_model.specs.Complete.{book, fill, release, release_multi, reply}
 use Rattle.fab_base.specs.Replies.{at_either, owes, owes_by}
 use Rattle.fab_model.specs.Sending.{answering, do_answer, end_with, going_on, is_answered_by}
 use Rattle.fab_model.specs.Target.{perform}
 use Rattle.fab_model.specs.Arrivals.{completed, do_head, do_request, do_tail, heading_message, heading_other, keeping, made_whole, newcomer, remote_data, remote_event, tail_to, taker, way_of, with_regions}
+use Rattle.fab_model.proofs.Answering.{message_owes}
 use Rattle.fab_face.specs.Owed.{dues, to_post, is_debt, to_book, is_pledge, is_due, due_for, asked_by, kept_for, begun_in, Pledged, PartlyIn, IsPartly}
 use Rattle.fab_face.proofs.Counts.{one, count_cons, count_snoc, count_same, count_map, count_none, count_sum}
 use Rattle.fab_face.proofs.Letting.{lets_post}
@@ -63,22 +62,6 @@ alone_partly rx begun source partly other op =
             absurd (let bad : is_keep (Some Keep) ≡ false = rw way at other in cc (bad))
 
 -- ---- the arrival of an item
-
-message_owes : (h : ItemHead) → is_message h.kind ≡ true → owes h ≡ at_either h.ack
-message_owes h m = go h.kind m ∙ asks_either h.ack
-  where
-    go : (w : Kind) → is_message w ≡ true → owes_by (at_either h.ack) w ≡ at_either h.ack
-    go Msg e = refl
-    go TagMsg e = refl
-    go WriteReq e = absurd (cc (e))
-    go ReadReq e = absurd (cc (e))
-    go AtomicReq e = absurd (cc (e))
-    go Reply e = absurd (cc (e))
-
-    asks_either : (a : Ack) → at_either a ≡ at_either a
-    asks_either Nothing = refl
-    asks_either Delivery = refl
-    asks_either Match = refl
 
 module _ (s : State) (source : ℕ) (head : ItemHead) where
   abbrev new : Arrival

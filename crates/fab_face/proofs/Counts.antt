@@ -2,7 +2,7 @@
 use Rattle.std.proofs.Common.{◌≡◌, ◌≤◌, ◌+◌, ℕ, zero, suc, Bool, true, false, List, [], ◌∷◌, ◌++◌, cond, map, drop, slice_get, Some, refl, ap, ◌∙◌, arith}
 use Rattle.std.specs.Prelude.{count_by, find, All}
 use Rattle.std.proofs.lemmas.List.Elements.{All-head, All-tail}
-use Rattle.fab_wire.proofs.Owed.{count_by-append}
+use Rattle.fab_link.proofs.Owed.{count_by-append}
 use Rattle.fab_model.specs.Matching.{remove_first}
 
 abbrev pub one : Bool → ℕ

@@ -1,8 +1,8 @@
 -- In a completion queue that is all read, nothing waits for room.
-use Rattle.std.proofs.Common.{◌≡◌, ◌≤◌, ◌-◌, inl, inr, ℕ, zero, suc, true, List, [], ◌∷◌, length, None, arith}
-use Rattle.std.specs.Prelude.{slice_get}
+use Rattle.std.proofs.Common.{◌≡◌, ◌≤◌, ◌-◌, inl, inr, true, length, None, arith}
 use Rattle.std.proofs.lemmas.Bool.{le-leb}
-use Rattle.fab_wire.specs.Joined.{grown}
+use Rattle.fab_base.proofs.Lists.{none_past}
+use Rattle.fab_link.specs.Joined.{grown}
 use Rattle.fab_model.specs.State.{State, fits}
 use Rattle.fab_model.specs.Receiving.{draw_due}
 use Rattle.fab_model.specs.Peers.{unread}
@@ -14,11 +14,6 @@ use Rattle.fab_face.proofs.Writing.{Adds, adds_then, adds_more, adds_draw, adds_
 -- where all is read and two entries have room, what writes at most two fits
 pub fits_two : (s u : State) → Adds 2 s u → s.cq.taken_out ≡ length s.cq.written → 2 ≤ s.cq.size → fits u.cq ≡ true
 fits_two s u a read size = le-leb (length u.cq.written - u.cq.taken_out) u.cq.size (omega (arith, a.read, a.size, a.most, read, size))
-
-none_past : {X : Type 0} (xs : List X) (k : ℕ) → slice_get xs k ≡ None → length xs ≤ k
-none_past [] k none = omega arith
-none_past (x ∷ xs) zero none = absurd (cc)
-none_past (x ∷ xs) (suc k) none = let more = none_past xs k none in omega (arith, more)
 
 module _ {Home : Type 0} where
   -- where there is no first unread entry, all are read

@@ -5,8 +5,9 @@ use Rattle.std.proofs.lemmas.List.{map-append}
 use Rattle.std.proofs.lemmas.Grind.{flat_map-append}
 use Rattle.fab_base.specs.Counts.{Rose}
 use Rattle.fab_base.specs.declared.peers.LineResult.TheVariants.{Done}
-use Rattle.fab_wire.specs.declared.moves.Move.{Move}
-use Rattle.fab_wire.specs.declared.moves.Move.TheVariants.{Take as In}
+use Rattle.fab_base.proofs.Numbers.{rose_later as rose_before}
+use Rattle.fab_link.specs.declared.moves.Move.{Move}
+use Rattle.fab_link.specs.declared.moves.Move.TheVariants.{Take as In}
 use Rattle.fab_link.specs.Meaning.{GrewBy, Incoming, Outgoing}
 use Rattle.fab_model.specs.Calls.{Call, do_call}
 use Rattle.fab_face.specs.declared.events.Event.TheVariants.{Call as Called}
@@ -34,7 +35,7 @@ draws_move (Had ∷ acts) are = absurd (cc)
 
 -- ---- ports
 
-moved_then : (a b c : Option (List Move)) (xs ys : List Way) → MovedBy a b xs → MovedBy b c ys → MovedBy a c (xs ++ ys)
+pub moved_then : (a b c : Option (List Move)) (xs ys : List Way) → MovedBy a b xs → MovedBy b c ys → MovedBy a c (xs ++ ys)
 moved_then None b c xs ys p q = subst (λ (o : Option (List Move)). MovedBy o c ys) p q
 moved_then (Some moves) b c xs ys (more, is, ways) q =
     let r : MovedBy (Some (moves ++ more)) c ys = subst (λ (o : Option (List Move)). MovedBy o c ys) is q in
@@ -54,14 +55,6 @@ moved_one (Some moves) b move w is (n, grew) = (move n ∷ [], grew, ap (λ x. x
 -- one frame is taken, and one is posted
 pub moved_took : (a m b : Option (List Move)) (source : ℕ) → m ≡ a → GrewBy (In source) m b → MovedBy a b (From source ∷ [])
 moved_took a m b source is grew = moved_one a b (In source) (From source) (λ n. refl) (subst (λ (x : Option (List Move)). GrewBy (In source) x b) is grew)
-
--- a count that rose between two others that never fall
-rose_before : (a b c : ℕ) → a ≤ b → Rose b c → Rose a c
-rose_before a b c le (inl less) = inl (omega (arith, le, less))
-rose_before a b c le (inr last) = elim (cases_eq a b) [
-  | inl same ↦ inr (same ∙ last.0, last.1)
-  | inr other ↦ (let e = last.0 in inl (omega (arith, le, other, e)))
-]
 
 rose_behind : (a b c : ℕ) → Rose a b → b ≤ c → Rose a c
 rose_behind a b c (inl less) le = inl (omega (arith, le, less))

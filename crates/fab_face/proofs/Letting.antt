@@ -8,7 +8,7 @@ use Rattle.fab_base.specs.declared.operations.Held.{Held}
 use Rattle.fab_model.specs.State.{Transmitting, accepted_for, held_for}
 use Rattle.fab_model.specs.Sending.{is_busy, let_out, held_back, letting_out, items_of}
 use Rattle.fab_model.proofs.Fences.{out_and_back}
-use Rattle.fab_wire.proofs.Owed.{count_by-append}
+use Rattle.fab_link.proofs.Owed.{count_by-append}
 use Rattle.fab_face.specs.Owed.{is_answer, unbegun, to_post}
 use Rattle.fab_face.proofs.Counts.{count_map, count_dropped, none_dropped}
 

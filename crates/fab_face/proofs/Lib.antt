@@ -9,3 +9,4 @@ pub mod Owing
 pub mod Arriving
 pub mod Repaid
 mod Refused
+pub mod Going

@@ -16,18 +16,13 @@ use Rattle.fab_base.specs.declared.operations.Coming.{Coming}
 use Rattle.fab_base.specs.declared.operations.Coming.TheVariants.{Into, Keep, Throw}
 use Rattle.fab_model.specs.Matching.{remove_first, takes}
 use Rattle.fab_model.specs.State.{State, Transmitting, accepted_for, coming_from, with_rx}
-use Rattle.fab_model.specs.Complete.{at_delivery, at_match, book, fill, release, release_multi, reply}
+use Rattle.fab_model.specs.Complete.{book, fill, release, release_multi, reply}
+use Rattle.fab_base.specs.Kinds.{at_delivery, at_match}
 use Rattle.fab_base.specs.Replies.{at_either, owes}
 use Rattle.fab_model.specs.Receiving.{drop_arrival, give, goes}
+use Rattle.fab_model.proofs.Parts.{get_or-set}
 use Rattle.fab_face.specs.Owed.{dues, is_answer, unbegun, to_post, is_debt, to_book, is_pledge, is_due, due_for, asked_by, kept_for, begun_in, Pledged, IsComing, PartlyIn, IsPartly}
 use Rattle.fab_face.proofs.Counts.{one, count_removed, count_dropped, found_all}
-
-pub get_or-set : {X : Type 0} (xs : List X) (i j : ℕ) (x d : X) → (get_or (set xs i x) j d ≡ get_or xs j d) ⊎ ((i ≡ j) × (get_or (set xs i x) j d ≡ x))
-get_or-set [] i j x d = inl refl
-get_or-set (y ∷ xs) zero zero x d = inr (refl, refl)
-get_or-set (y ∷ xs) zero (suc j) x d = inl refl
-get_or-set (y ∷ xs) (suc i) zero x d = inl refl
-get_or-set (y ∷ xs) (suc i) (suc j) x d = elim (get_or-set xs i j x d) [ inl e ↦ inl e | inr e ↦ inr (ap suc e.0, e.1) ]
 
 pub record Keeps (s t : State) : Type 0 where
   pub due : (places : List ℕ) (d op : ℕ) → dues t places d op ≤ dues s places d op

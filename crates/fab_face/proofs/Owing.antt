@@ -1,12 +1,8 @@
 -- Calls and draws keep what an endpoint owes.
 use Rattle.std.proofs.Common.{◌≡◌, ◌≤◌, ◌+◌, ℕ, Bool, true, false, List, [], ◌∷◌, ◌++◌, Option, Some, None, refl, ap, subst, arith, rules}
-use Rattle.std.specs.Prelude.{find, ◌==◌, is_none, not, nat_le, count_by, ◌||◌}
+use Rattle.std.specs.Prelude.{find, ◌==◌, count_by}
 use Rattle.fab_base.specs.declared.items.Want.{Want}
-use Rattle.fab_base.specs.declared.items.Kind.{Kind}
-use Rattle.fab_base.specs.declared.items.Kind.TheVariants.{Msg, TagMsg, WriteReq, ReadReq, AtomicReq, Reply}
 use Rattle.fab_base.specs.declared.faults.Fault.{Fault}
-use Rattle.fab_base.specs.declared.faults.Fault.TheVariants.{Again, Invalid, MsgSize, NotSupported}
-use Rattle.fab_base.specs.declared.faults.Busy.TheVariants.{TxFull}
 use Rattle.fab_base.specs.declared.entries.PeekHow.{PeekHow}
 use Rattle.fab_base.specs.declared.entries.PeekHow.TheVariants.{Peek, Claim, Discard}
 use Rattle.fab_base.specs.declared.entries.Taken.TheVariants.{Success}
@@ -16,21 +12,18 @@ use Rattle.fab_base.specs.declared.operations.Receive.{Receive}
 use Rattle.fab_base.specs.declared.operations.Arrival.{Arrival}
 use Rattle.fab_base.specs.declared.operations.Held.{Held}
 use Rattle.fab_model.specs.Matching.{remove_first, takes}
-use Rattle.fab_model.specs.State.{State, Receiving, held_for, called, count, in_use, lookup, with_rx, write}
+use Rattle.fab_model.specs.State.{State, Receiving, held_for, called, count, lookup, with_rx, write}
 use Rattle.fab_model.specs.Complete.{error, release}
-use Rattle.fab_model.specs.Sending.{Order, accepting, first_fault, is_granted, is_too_long, is_well_formed, items_of, operation_of, transmit, transmit_fault, transmit_to}
+use Rattle.fab_model.specs.Sending.{Order, accepting, items_of, operation_of, transmit, transmit_fault, transmit_to}
 use Rattle.fab_model.specs.Receiving.{Posting, cancel, cancellable, claim_of, draws, drop_arrival, drop_claimed, give, joining_posted, look, look_at, peeked, post, receive_of, take_claimed, taken_by, taking, want_of, without_claim, without_first, without_posted}
 use Rattle.fab_model.specs.Arrivals.{do_draw, seating}
 use Rattle.fab_model.specs.Calls.{Call, Transmit, Post, Look, TakeClaimed, DropClaimed, Cancel, CancelFirst, Insert, Remove, Reg, Close, Put, Show, Count, answer, close, do_call, insert, put, reg, remove}
 use Rattle.fab_base.specs.Replies.{is_reply}
+use Rattle.fab_model.proofs.Answering.{granted}
 use Rattle.fab_face.specs.Owed.{is_answer, is_debt, is_pledge}
 use Rattle.fab_face.proofs.Counts.{one, count_snoc, count_removed, count_map}
 use Rattle.fab_face.proofs.Letting.{lets_post}
 use Rattle.fab_face.proofs.Owed.{Keeps, keeps_same, Gone, gone_unexpected, gone_claimed, gives, drops, release_keeps}
-
-first_is : (b : Bool) (f : Fault) (rest : List (Bool × Fault)) → first_fault ((b, f) ∷ rest) ≡ None → b ≡ false
-first_is true f rest e = absurd (cc (e))
-first_is false f rest e = refl
 
 module _ (s : State) where
   keeps : Keeps s s
@@ -58,28 +51,6 @@ module _ (s : State) where
       go : (x : Option ℕ) → Keeps s (let u : State = elim x [ None ↦ s | Some t ↦ transmit_to t s o ] in u)
       go None = keeps
       go (Some t) = accepts_item t o asks
-
-  -- no reply is granted
-  granted : (o : Order) → transmit_fault s o ≡ None → is_reply o.kind ≡ false
-  unfolding transmit_fault
-  granted o e = go (is_granted s.caps o.kind o.atom) refl (first_is (not (is_granted s.caps o.kind o.atom)) NotSupported (
-      (is_too_long s.most_message o, MsgSize)
-      ∷ (is_none (lookup s.av o.dest) || nat_le 4_611_686_018_427_387_904 s.tx.ops || not (is_well_formed o o.atom), Invalid)
-      ∷ (nat_le s.most_tx (in_use s.tx), Again (TxFull s.most_tx))
-      ∷ []
-      ) e)
-    where
-      no_reply : (k : Kind) → is_granted s.caps k o.atom ≡ true → is_reply k ≡ false
-      no_reply Reply f = absurd (cc (f))
-      no_reply Msg f = refl
-      no_reply TagMsg f = refl
-      no_reply WriteReq f = refl
-      no_reply ReadReq f = refl
-      no_reply AtomicReq f = refl
-
-      go : (b : Bool) → is_granted s.caps o.kind o.atom ≡ b → not b ≡ false → is_reply o.kind ≡ false
-      go true f e = no_reply o.kind f
-      go false f e = absurd (cc (e))
 
   -- ---- receives
 
@@ -195,7 +166,7 @@ module _ (s : State) where
 
   pub call_keeps : (c : Call) → Keeps s (do_call s c).1
   unfolding do_call reg close put insert remove
-  call_keeps (Transmit o) = faulted (transmit_fault s o) (transmit s o) (λ e. transmits o (granted o e))
+  call_keeps (Transmit o) = faulted (transmit_fault s o) (transmit s o) (λ e. transmits o (granted s o e))
   call_keeps (Post p) = faulted _ (post s p) (λ e. posts p)
   call_keeps (Look how source tag ignore ctx) = faulted _ (look how (want_of s true source tag ignore) ctx s) (λ e. looks how (want_of s true source tag ignore) ctx)
   call_keeps (TakeClaimed buf ctx) = faulted _ (take_claimed s buf ctx) (λ e. takes_claimed buf ctx)

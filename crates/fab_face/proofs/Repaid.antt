@@ -1,5 +1,5 @@
 -- Each act leaves each peer owed what is due to it.
-use Rattle.std.proofs.Common.{◌≡◌, ◌≢◌, ◌≤◌, ◌<◌, ◌+◌, ◌-◌, min, ℕ, zero, suc, Bool, true, false, ◌&&◌, List, [], ◌∷◌, ◌++◌, length, drop, get_or, get_or-set_same, get_or-set_other, slice_get, Option, Some, None, ◌⊎◌, inl, inr, refl, sym, ◌∙◌, ap, subst, arith, rules}
+use Rattle.std.proofs.Common.{◌≡◌, ◌≢◌, ◌≤◌, ◌<◌, ◌+◌, ◌-◌, min, ℕ, zero, suc, Bool, true, false, ◌&&◌, List, [], ◌∷◌, ◌++◌, length, drop, get_or-set_same, get_or-set_other, slice_get, Option, Some, None, ◌⊎◌, inl, inr, refl, sym, ◌∙◌, ap, subst, arith, rules}
 use Rattle.std.specs.Prelude.{◌==◌, slice_index, slice_set, count_by}
 use Rattle.std.proofs.lemmas.Bool.{cases_eq, eqb-false}
 use Rattle.std.proofs.lemmas.Bool.Decides.{nat_tests}
@@ -9,10 +9,10 @@ use Rattle.fab_base.specs.declared.items.Outcome.TheVariants.{Done}
 use Rattle.fab_base.specs.declared.frames.Frame.{Frame}
 use Rattle.fab_base.specs.declared.operations.Operation.{Operation}
 use Rattle.fab_base.specs.declared.peers.LineResult.{LineResult}
-use Rattle.fab_wire.specs.Joined.{is_last, grown}
-use Rattle.fab_wire.specs.Owing.{begins_reply, ends_owing, replies, owing}
+use Rattle.fab_link.specs.Joined.{is_last, grown}
+use Rattle.fab_link.specs.Owing.{begins_reply, ends_owing, replies, owing}
 use Rattle.fab_base.specs.Replies.{owes}
-use Rattle.fab_wire.proofs.Owed.{replies-append, owing-append}
+use Rattle.fab_link.proofs.Owed.{replies-append, owing-append}
 use Rattle.fab_link.specs.Meaning.{Owes, Repays}
 use Rattle.fab_model.specs.State.{State, Transmitting, accepted_for, held_for, coming_from, raise, with_tx}
 use Rattle.fab_model.specs.Sending.{do_sent, end_with, ending, going_on, items_of, letting_out, transmitting}

@@ -21,14 +21,16 @@ use Rattle.fab_base.specs.declared.faults.Fault.{Fault}
 use Rattle.fab_base.specs.declared.items.Want.{Want}
 use Rattle.fab_model.specs.Calls.{Call, Transmit, Post, Look, TakeClaimed, DropClaimed, Cancel, CancelFirst, Insert, Remove, Reg, Close, Put, Show, Count, do_call, answer, insert, remove, reg, close, put}
 use Rattle.fab_model.specs.State.{State, Completions, called, coming_from, lookup, with_rx, with_tx, write, count, under_way}
-use Rattle.fab_model.specs.Complete.{fill, release, release_multi, let_go, is_made_by, reply, book, at_delivery, at_match}
+use Rattle.fab_model.specs.Complete.{fill, release, release_multi, let_go, is_made_by, reply, book}
+use Rattle.fab_base.specs.Kinds.{at_delivery, at_match, refusal_of}
 use Rattle.fab_base.specs.Replies.{at_either}
-use Rattle.fab_model.specs.Sending.{Order, do_sent, do_answer, end_with, ending, transmitting, going_on, answering, is_answered_by, refusal_of, class_of, transmit, transmit_to}
+use Rattle.fab_model.specs.Sending.{Order, do_sent, do_answer, end_with, ending, transmitting, going_on, answering, is_answered_by, class_of, transmit, transmit_to}
 use Rattle.fab_model.specs.Receiving.{Posting, draws, give, without_first, receive_of, taken_by, post, drop_arrival, look, look_at, take_claimed, taking, claim_of, without_claim, drop_claimed, cancel, cancellable, without_posted, want_of}
 use Rattle.fab_model.specs.Matching.{takes}
 use Rattle.fab_base.specs.declared.operations.Written.{Written}
 use Rattle.fab_model.specs.Target.{perform}
-use Rattle.fab_model.specs.Arrivals.{do_head, do_draw, seating, keeping, remote_class, remote_data, remote_event, with_regions, do_request, tail_to, made_whole, do_tail}
+use Rattle.fab_model.specs.Arrivals.{do_head, do_draw, seating, keeping, remote_data, remote_event, with_regions, do_request, tail_to, made_whole, do_tail}
+use Rattle.fab_model.proofs.Unchanged.{event_cq}
 use Rattle.fab_face.specs.Acts.{headed}
 
 -- ---- at most n entries are written, and none is read
@@ -126,14 +128,6 @@ adds_data Good source head s = by_kind head.kind
     by_kind WriteReq = adds_option 1 s head.imm _ _ (adds_none 1 s _ refl) (λ imm. adds_write _ _ s)
     by_kind _ = adds_none 1 s _ refl
 adds_data _ source head s = adds_none 1 s _ refl
-
-event_cq : (outcome : Outcome) (head : ItemHead) (s : State) → (remote_event outcome head s).cq ≡ s.cq
-event_cq Good head s = by_cap s.caps.rma_event
-  where
-    by_cap : (b : Bool) → (let t : State = elim b [ true ↦ count (remote_class head) true s | false ↦ s ] in t.cq ≡ s.cq)
-    by_cap true = refl
-    by_cap false = refl
-event_cq _ head s = refl
 
 adds_request : (s : State) (source : ℕ) (head : ItemHead) (bytes : List ℕ) → Adds 1 s (do_request s source head bytes)
 unfolding do_request reply

@@ -14,9 +14,9 @@ use Rattle.fab_base.specs.declared.operations.Written.{Written}
 use Rattle.fab_base.specs.declared.peers.LineResult.TheVariants.{Done}
 use Rattle.fab_base.specs.declared.peers.Step.{Step}
 use Rattle.fab_base.specs.declared.peers.Step.TheVariants.{Do, Head, Tail, Draw, Read as ReadStep, Sent as SentStep}
-use Rattle.fab_wire.specs.declared.moves.Move.{Move}
-use Rattle.fab_wire.specs.declared.moves.Move.TheVariants.{Post as Out, Take as In}
-use Rattle.fab_wire.specs.Joined.{is_last, grown}
+use Rattle.fab_link.specs.declared.moves.Move.{Move}
+use Rattle.fab_link.specs.declared.moves.Move.TheVariants.{Post as Out, Take as In}
+use Rattle.fab_link.specs.Joined.{is_last, grown}
 use Rattle.fab_model.specs.State.{State, fits}
 use Rattle.fab_model.specs.Receiving.{draw_due}
 use Rattle.fab_model.specs.Sending.{do_sent}

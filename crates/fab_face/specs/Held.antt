@@ -11,9 +11,9 @@ use Rattle.fab_base.specs.declared.limits.TheConstants.{FRAME_BYTES}
 use Rattle.fab_base.specs.declared.items.Item.{Item}
 use Rattle.fab_base.specs.declared.frames.FrameHead.{FrameHead}
 use Rattle.fab_base.specs.declared.frames.Frame.{Frame}
-use Rattle.fab_wire.specs.declared.moves.Move.{Move}
-use Rattle.fab_wire.specs.Cut.{frame_of, IsBetweenItems, IsItem}
-use Rattle.fab_wire.specs.Frames.{IsSound}
+use Rattle.fab_link.specs.declared.moves.Move.{Move}
+use Rattle.fab_link.specs.Cut.{frame_of, IsBetweenItems, IsItem}
+use Rattle.fab_link.specs.Frames.{IsSound}
 use Rattle.fab_link.specs.Meaning.{Outgoing, Incoming, Owes, end_of, taken_end}
 use Rattle.fab_model.specs.State.{State, accepted_for, in_use, lookup}
 use Rattle.fab_model.specs.Sending.{AreFenced}

@@ -15,7 +15,7 @@ use Rattle.fab_base.specs.declared.operations.Arrival.{Arrival}
 use Rattle.fab_base.specs.declared.operations.Coming.{Coming}
 use Rattle.fab_base.specs.declared.operations.Coming.TheVariants.{Into, Keep, Throw, Request, Answer}
 use Rattle.fab_base.specs.Replies.{is_reply, owes, at_either}
-use Rattle.fab_model.specs.Complete.{at_delivery, at_match}
+use Rattle.fab_base.specs.Kinds.{at_delivery, at_match}
 use Rattle.fab_model.specs.State.{State, Receiving, Transmitting, accepted_for, held_for, coming_from}
 use Rattle.fab_model.specs.Sending.{items_of}
 

@@ -8,7 +8,7 @@ use Rattle.fab_base.specs.declared.limits.Limits.{Limits}
 use Rattle.fab_base.specs.declared.limits.Size.TheVariants.{Peers, Lane, Pool, Tx, Rx, Cq, Log, Inject}
 use Rattle.fab_base.specs.Offer.{limits_of, most_message}
 use Rattle.fab_av.specs.Addresses.{Addresses}
-use Rattle.fab_wire.specs.Cut.{IsBetweenItems}
+use Rattle.fab_link.specs.Cut.{IsBetweenItems}
 use Rattle.fab_link.specs.Meaning.{end_of, taken_end}
 use Rattle.fab_model.specs.Replay.{fresh}
 use Rattle.fab_link.specs.declared.port.Port.{Ghosts}

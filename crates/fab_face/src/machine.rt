@@ -4,7 +4,7 @@ ghost use Rattle.fab_base.specs.declared.limits.TheConstants.{FRAME_BYTES};
 ghost use Rattle.fab_base.specs.declared.items.Item.{Item};
 ghost use Rattle.fab_base.specs.declared.peers.LineResult.TheVariants.{Done, Refused as Answer};
 ghost use Rattle.fab_base.specs.declared.entries.Taken.TheVariants.{Success, Failure};
-ghost use Rattle.fab_wire.specs.Frames.{frame, IsSound};
+ghost use Rattle.fab_link.specs.Frames.{frame, IsSound};
 ghost use Rattle.fab_model.specs.State.{fits, in_use, awaits, deferred_count, lookup};
 ghost use Rattle.fab_model.specs.Sending.{do_sent};
 ghost use Rattle.fab_model.specs.Receiving.{draw_due};

@@ -7,8 +7,8 @@ use Rattle.std.proofs.lemmas.List.{map-set}
 use Rattle.std.proofs.lemmas.Option.{slice_get_within}
 use Rattle.fab_base.specs.declared.frames.Frame.{Frame}
 use Rattle.fab_base.specs.declared.frames.FrameHead.{FrameHead}
-use Rattle.fab_wire.specs.Frames.{IsLane, MayCome, last_head}
-use Rattle.fab_wire.proofs.Lanes.{IsLane-at}
+use Rattle.fab_link.specs.Frames.{MayCome, last_head}
+use Rattle.fab_link.proofs.Lanes.{IsLane-at, last_head-append as last_behind, lane_rest as lane_behind}
 use Rattle.fab_link.specs.Plain.{Lane, Plain, Posted, lane_at, with_lane, left, in_of, out_of}
 use Rattle.fab_link.proofs.Looks.{same_lane, other_lane}
 use Rattle.fab_model.specs.Peers.{Actor}
@@ -18,7 +18,7 @@ use Rattle.fab_ep.specs.Value.{Whole}
 use Rattle.fab_peer.specs.Agreed.{Agrees}
 use Rattle.fab_peer.specs.Turns.{Living, IsCounted}
 use Rattle.fab_finish.specs.Joined.{Member, member_actor, member_steps, actors, schedules, lane, IsOwn, IsJoined}
-use Rattle.fab_finish.proofs.Joining.{set_itself, last_behind, lane_is, lane_own, lane_other}
+use Rattle.fab_finish.proofs.Joining.{set_itself, lane_is, lane_own, lane_other}
 
 -- ---- lists
 
@@ -31,11 +31,6 @@ take_next {X} m xs x rest e = (let one : m + 1 ≡ suc m = omega arith in ap (λ
     go zero (y ∷ ys) e = let is : y ≡ x = cc in ap (λ (z : X). z ∷ []) is
     go (suc n) [] e = absurd (cc)
     go (suc n) (y ∷ ys) e = ap (λ zs. y ∷ zs) (go n ys e)
-
--- the frames behind the first ones of a lane
-lane_behind : (before : Option FrameHead) (xs ys : List Frame) → IsLane before (xs ++ ys) → IsLane (last_head before xs) ys
-lane_behind before [] ys lane = lane
-lane_behind before (x ∷ xs) ys lane = lane_behind (Some x.head) xs ys lane.1
 
 first_at : {X : Type 0} (m : ℕ) (xs : List X) (x d : X) (rest : List X) → drop m xs ≡ x ∷ rest → (m < length xs) × (get_or xs m d ≡ x)
 first_at zero [] x d rest e = absurd (cc)

@@ -11,6 +11,7 @@ use Rattle.fab_base.specs.declared.items.Item.{Item}
 use Rattle.fab_base.specs.declared.peers.Step.{Step}
 use Rattle.fab_base.specs.declared.script.Conf.{Conf}
 use Rattle.fab_base.specs.declared.script.Line.{Line}
+use Rattle.fab_base.proofs.Lists.{all_the_same as same_at, get_some as member}
 use Rattle.fab_model.specs.State.{accepted_for, Transmitting}
 use Rattle.fab_model.specs.Calls.{upto}
 use Rattle.fab_model.specs.Orders.{Leads, Reached, by}
@@ -24,11 +25,11 @@ use Rattle.fab_model.proofs.Turns.{slice_get-set_other, slice_get-set_same}
 use Rattle.fab_model.proofs.Views.{Sound, more_self}
 use Rattle.fab_model.proofs.Views as views
 use Rattle.fab_model.proofs.Walks.{reached_more}
+use Rattle.fab_model.proofs.Elements.{length-upto}
 use Rattle.fab_peer.specs.Turns.{Ended}
 use Rattle.fab_finish.specs.Joined.{Member, told_of, member_actor, member_steps, actors, schedules, opened, Ends}
 use Rattle.fab_finish.specs.Rests.{Rest, Cancelled, AreCancelled}
-use Rattle.fab_finish.proofs.Joining.{member}
-use Rattle.fab_finish.proofs.Starting.{first_actor, length-upto, same_at, long}
+use Rattle.fab_finish.proofs.Starting.{first_actor, long}
 use Rattle.fab_finish.proofs.Resting.{mapped}
 
 -- ---- the calm

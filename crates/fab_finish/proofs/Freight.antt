@@ -4,13 +4,16 @@ use Rattle.std.specs.Prelude.{◌-◌, ◌==◌, min, nat_lt, slice_get, slice_s
 use Rattle.std.specs.Option.{option_map, option_map_or}
 use Rattle.std.proofs.lemmas.Bool.{cases_eq, eq-eqb}
 use Rattle.std.proofs.lemmas.Bool.Decides.{nat_tests}
-use Rattle.std.proofs.lemmas.List.{length-map, length-take, map-set}
+use Rattle.std.proofs.lemmas.List.{length-map, length-take, map-set, nil_from_length as none_of}
 use Rattle.std.proofs.lemmas.Option.{slice_get_within}
 use Rattle.fab_base.specs.declared.frames.Frame.{Frame}
 use Rattle.fab_base.specs.declared.items.Item.{Item}
 use Rattle.fab_base.specs.declared.items.ItemHead.{ItemHead}
 use Rattle.fab_base.specs.declared.peers.Step.{Step}
-use Rattle.fab_wire.specs.Joined.{is_last, grown}
+use Rattle.fab_base.proofs.Bools.{or_false}
+use Rattle.fab_base.proofs.Lists.{both_empty as front_none}
+use Rattle.fab_base.proofs.Numbers.{other_number as not_same, numbers_differ as not_equal}
+use Rattle.fab_link.specs.Joined.{is_last, grown}
 use Rattle.fab_link.specs.Plain.{Lane, Plain, PlainHome, lane_at, left, in_of, out_of, with_lane}
 use Rattle.fab_link.proofs.Looks.{same_lane, other_lane}
 use Rattle.fab_ep.specs.Value.{Whole}
@@ -44,9 +47,6 @@ total_least f g h zero le = omega arith
 total_least f g h (suc n) le = omega (arith, total_least f g h n le, le n)
 
 -- ---- one frame in the middle of an item
-
-not_equal : (a b : ℕ) → (a == b) ≡ false → a ≢ b
-not_equal a b f e = let t : (a == b) ≡ true = eq-eqb a b e in cc (t, f)
 
 -- a frame that is not the last one leaves less to post, and more than nothing
 post_less : (whole place : ℕ) → place ≤ whole → place + min 4096 (whole - place) ≢ whole → (whole - (place + min 4096 (whole - place)) + 1 ≤ whole - place) × (place + min 4096 (whole - place) < whole)
@@ -132,10 +132,6 @@ module _ (n : ℕ) (h t : Held) (dest : ℕ) (f : Frame) (room : Roomy n h) (bel
 
 -- ---- acts that take no step
 
-front_none : {X : Type 0} (xs ys : List X) → xs ++ ys ≡ [] → (xs ≡ []) × (ys ≡ [])
-front_none [] ys e = (refl, e)
-front_none (x ∷ xs) ys e = absurd (cc (e))
-
 only_none : {X : Type 0} (b : Bool) (x : X) → only b x ≡ [] → b ≡ false
 only_none true x e = absurd (cc (e))
 only_none false x e = refl
@@ -167,9 +163,6 @@ one_here false x xs e = absurd (cc (e))
 none_here : {X : Type 0} (b : Bool) (x : X) (xs : List X) → b ≡ false → length (only b x ++ xs) ≤ length xs
 none_here true x xs e = absurd (cc (e))
 none_here false x xs e = omega arith
-
-not_same : (a b : ℕ) → a ≢ b → (a == b) ≡ false
-not_same a b ne = grind (arith, nat_tests, ne)
 
 posts_more : (n dest : ℕ) (f : Frame) (acts : List Act) → posts n (Posted dest f ∷ acts) ≤ posts n acts + 1
 posts_more n dest f acts = total_more (λ d. length (posted_to d (Posted dest f ∷ acts))) (λ d. length (posted_to d acts)) dest 1 n
@@ -270,10 +263,6 @@ freight_set ps k v w a b is_a le =
     (omega (arith, here, was, le)) below in
     omega (arith, now, all)
 
-none_of : {X : Type 0} (xs : List X) → length xs ≡ 0 → xs ≡ []
-none_of [] e = refl
-none_of (x ∷ xs) e = absurd (omega (arith, e))
-
 some_length : (acts : List Act) → one_if (is_some_act acts) ≤ length acts
 some_length [] = omega arith
 some_length (act ∷ acts) = omega arith
@@ -365,10 +354,6 @@ freight_both r true true a b c e f g = (let k = ap one_if e in omega (arith, k, 
 freight_both r true false a b c e f g = (let k = ap one_if e in omega (arith, k, f, g))
 freight_both r false true a b c e f g = (let k = ap one_if e in omega (arith, k, f, g))
 freight_both r false false a b c e f g = (let k = ap one_if e in omega (arith, k, f, g))
-
-or_false : (b : Bool) → (b || false) ≡ b
-or_false true = refl
-or_false false = refl
 
 -- what is carried after the turns
 pub lowers_after : (q s m l : Bool) (ps qs rs : List Member) → q ≡ (m || l) → Lowers s m ps qs → actors rs ≡ actors qs → freight rs + one_if l ≤ freight qs → Lowers s q ps rs

@@ -1,5 +1,5 @@
 -- All peers with their ports: one takes its turn.
-use Rattle.std.proofs.Common.{◌≡◌, ◌≢◌, ◌<◌, ◌≤◌, ◌+◌, ℕ, zero, suc, Bool, false, List, [], ◌∷◌, ◌++◌, length, length-append, take, drop, Option, Some, None, inl, inr, refl, sym, ap, subst, ◌∙◌, arith, append_assoc, length-set, get_or}
+use Rattle.std.proofs.Common.{◌≡◌, ◌≢◌, ◌<◌, ◌≤◌, ◌+◌, ℕ, zero, suc, Bool, false, List, [], ◌∷◌, ◌++◌, length, length-append, take, drop, Option, Some, None, inl, inr, refl, sym, ap, subst, ◌∙◌, arith, append_assoc, length-set}
 use std.Path.{fun_ext}
 use Rattle.std.specs.Prelude.{slice_get, slice_set, slice_index, slice_index_or, Result, Ok, Err, OnOk, IfOk}
 use Rattle.std.specs.Option.{option_map, option_map_or}
@@ -9,8 +9,9 @@ use Rattle.std.proofs.lemmas.Option.{slice_get-map, slice_get_within, get_or_fro
 use Rattle.fab_base.specs.declared.frames.Frame.{Frame}
 use Rattle.fab_base.specs.declared.frames.FrameHead.{FrameHead}
 use Rattle.fab_base.specs.declared.items.Item.{Item}
-use Rattle.fab_wire.specs.Frames.{last_head}
-use Rattle.fab_wire.specs.Joined.{AreFirst}
+pub use Rattle.fab_base.proofs.Lists.{get_some as member, none_past}
+use Rattle.fab_link.specs.Frames.{last_head}
+use Rattle.fab_link.specs.Joined.{AreFirst}
 use Rattle.fab_link.specs.Plain.{Lane, PlainHome, fresh_lane, lane_at, in_of, out_of}
 use Rattle.fab_model.specs.State.{accepted_for}
 use Rattle.fab_model.specs.Orders.{Leads, Reached, by}
@@ -19,6 +20,7 @@ use Rattle.fab_model.specs.Views.{View, More, rule, seen}
 use Rattle.fab_model.proofs.Turns.{slice_get-set_other, slice_get-set_same}
 use Rattle.fab_model.proofs.Views.{prefix_self}
 use Rattle.fab_model.proofs.Walks.{walk_leads, reached_more}
+use Rattle.fab_link.proofs.Lanes.{last_head-append as last_behind}
 use Rattle.fab_face.specs.Held.{begun_of}
 use Rattle.fab_face.specs.Acts.{Act, steps_of, taken_of, posted_to}
 use Rattle.fab_peer.specs.Turns.{IsCounted, living_of, Turned, Shows, joined_from, is_some_act}
@@ -28,23 +30,11 @@ use Rattle.fab_finish.specs.Joined.{Member, told_of, member_actor, member_steps,
 
 -- ---- lists
 
--- the element at the place, where a look-up with itself as the default gave it
-pub is_at : {X : Type 0} (xs : List X) (k : ℕ) (x : X) → k < length xs → x ≡ get_or xs k x → slice_get xs k ≡ Some x
-is_at [] k x below e = absurd (omega (arith, below))
-is_at (y ∷ xs) zero x below e = ap Some (sym e)
-is_at (y ∷ xs) (suc k) x below e = is_at xs k x (omega (arith, below)) e
-
 -- the element that a look-up with any default gave
 pub got : {X : Type 0} (xs : List X) (k : ℕ) (d : X) → k < length xs → slice_get xs k ≡ Some (slice_index_or xs k d)
 got [] k d below = absurd (omega (arith, below))
 got (y ∷ xs) zero d below = refl
 got (y ∷ xs) (suc k) d below = got xs k d (omega (arith, below))
-
--- the member at a place below the end
-pub member : {X : Type 0} (xs : List X) (k : ℕ) → k < length xs → (x : X) × (slice_get xs k ≡ Some x)
-member [] k l = absurd (omega arith)
-member (x ∷ xs) zero l = (x, refl)
-member (x ∷ xs) (suc k) l = member xs k (omega arith)
 
 -- a member that is written over with itself
 pub set_itself : {X : Type 0} (xs : List X) (k : ℕ) (x : X) → slice_get xs k ≡ Some x → slice_set xs k x ≡ xs
@@ -57,17 +47,6 @@ pub front_same : {X : Type 0} (n : ℕ) (xs ys : List X) → n ≤ length xs →
 front_same zero xs ys within = refl
 front_same (suc n) [] ys within = absurd (omega (arith, within))
 front_same (suc n) (x ∷ xs) ys within = ap (λ zs. x ∷ zs) (front_same n xs ys (omega (arith, within)))
-
--- a place where no member is lies past the end
-pub none_past : {X : Type 0} (xs : List X) (k : ℕ) → slice_get xs k ≡ None → length xs ≤ k
-none_past [] k none = omega arith
-none_past (x ∷ xs) zero none = absurd (cc)
-none_past (x ∷ xs) (suc k) none = let more = none_past xs k none in omega (arith, more)
-
--- the head of the last frame, where the first frames stand before the others
-pub last_behind : (before : Option FrameHead) (xs ys : List Frame) → last_head before (xs ++ ys) ≡ last_head (last_head before xs) ys
-last_behind before [] ys = refl
-last_behind before (x ∷ xs) ys = last_behind (Some x.head) xs ys
 
 -- the member that was written is the one found there
 pub same_member : (ps : List Member) (k : ℕ) (b p : Member) (P : Member → Type 0) → k < length ps → slice_get (slice_set ps k b) k ≡ Some p → P b → P p

@@ -1,28 +1,28 @@
 -- A round in which nothing moved: no peer can do anything, and nothing is on its way. So the peers are at rest.
 use Rattle.std.proofs.Common.{◌≡◌, ◌≢◌, ◌<◌, ◌≤◌, ◌+◌, ℕ, zero, suc, true, false, not, List, [], ◌∷◌, ◌++◌, length, take, drop, map, Option, Some, None, inl, inr, refl, sym, ap, subst, ◌∙◌, arith, append-nil}
 use Rattle.std.specs.Prelude.{◌==◌, slice_get, slice_index}
-use Rattle.std.specs.Option.{option_map}
 use Rattle.std.proofs.lemmas.Bool.{and_from, cases_lt}
 use Rattle.std.proofs.lemmas.Bool.Decides.{nat_tests}
 use Rattle.std.proofs.lemmas.List.{take-append-drop}
 use Rattle.std.proofs.lemmas.Option.{slice_get_within}
 use Rattle.fab_base.specs.declared.frames.Frame.{Frame}
-use Rattle.fab_base.specs.declared.items.Item.{Item}
-use Rattle.fab_wire.specs.Joined.{joined}
+use Rattle.fab_link.specs.Joined.{joined}
 use Rattle.fab_link.specs.Plain.{Lane, left, in_of, out_of}
 use Rattle.fab_model.specs.State.{accepted_for}
 use Rattle.fab_model.specs.Peers.{Actor, fabric, do_next}
 use Rattle.fab_model.specs.Receiving.{draw_due}
 use Rattle.fab_model.specs.Replay.{can_do, agree_all, all_idle, at_rest}
-use Rattle.fab_face.specs.Held.{Held, next_frame, next_item, piece}
+use Rattle.fab_face.specs.Held.{next_frame}
 use Rattle.fab_peer.specs.Turns.{IsStill as IsStillAfter}
 use Rattle.fab_peer.proofs.Agreeing.{sent_within}
 use Rattle.fab_base.specs.declared.peers.Step.{Step}
+use Rattle.fab_base.proofs.Lists.{none_past}
 use Rattle.fab_model.specs.Orders.{Reached}
 use Rattle.fab_model.specs.Views.{rule}
+use Rattle.fab_ep.proofs.Accepting.{none_item as no_item}
 use Rattle.fab_finish.specs.Joined.{Member, told_of, member_actor, actors, schedules, lane, IsJoined, GoesOn, IsStill, IsStillAt, AreStill}
 use Rattle.fab_finish.specs.Rests.{Rest}
-use Rattle.fab_finish.proofs.Joining.{lane_is, none_past}
+use Rattle.fab_finish.proofs.Joining.{lane_is}
 
 -- ---- one peer
 
@@ -77,13 +77,6 @@ pub mapped : {X Y : Type 0} (f : X → Y) (xs : List X) (k : ℕ) (y : Y) → sl
 mapped f [] k y e = absurd (cc)
 mapped f (x ∷ xs) zero y e = (x, refl, cc)
 mapped f (x ∷ xs) (suc k) y e = mapped f xs k y e
-
-no_item : (h : Held) (d : ℕ) → next_frame h d ≡ None → next_item h.state d ≡ None
-no_item h d none = by_item (next_item h.state d) refl none
-  where
-    by_item : (o : Option Item) → next_item h.state d ≡ o → option_map (λ item. piece item (slice_index h.places d)) o ≡ None → next_item h.state d ≡ None
-    by_item None is e = is
-    by_item (Some item) is e = absurd (cc)
 
 module _ (ps : List Member) (joined_ps : IsJoined ps) (still : AreStill ps) where
   -- all that was accepted is sent

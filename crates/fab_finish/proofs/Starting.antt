@@ -1,10 +1,10 @@
 -- Peers at the start of their lines, and lists by place.
-use Rattle.std.proofs.Common.{◌≡◌, ◌+◌, ℕ, zero, suc, List, [], ◌∷◌, length, map, drop, get_or, replicate, refl, sym, ap, ◌∙◌, arith, length-append}
+use Rattle.std.proofs.Common.{◌≡◌, ◌+◌, ℕ, zero, suc, List, [], ◌∷◌, length, map, drop, get_or, replicate, refl, sym, ap, ◌∙◌, arith}
 use Rattle.std.specs.Prelude.{slice_index_or}
 use Rattle.std.proofs.lemmas.List.{get_or-drop, drop-map}
 use Rattle.fab_base.specs.declared.script.Conf.{Conf}
 use Rattle.fab_base.specs.declared.script.Line.{Line}
-use Rattle.fab_model.specs.Calls.{upto}
+pub use Rattle.fab_base.proofs.Lists.{all_the_same as same_at}
 use Rattle.fab_model.specs.Peers.{Actor}
 use Rattle.fab_model.specs.Replay.{newly}
 
@@ -13,15 +13,6 @@ abbrev pub first_actor : Conf → List (List Line) → ℕ → Actor
 first_actor conf lists p = newly conf (slice_index_or lists p [])
 
 -- ---- lists by place
-
-pub length-upto : (n : ℕ) → length (upto n) ≡ n
-length-upto zero = refl
-length-upto (suc n) = omega (arith, length-append (upto n) (n ∷ []), length-upto n)
-
-pub same_at : {X : Type 0} (n k : ℕ) (x : X) → get_or (replicate n x) k x ≡ x
-same_at zero k x = refl
-same_at (suc n) zero x = refl
-same_at (suc n) (suc k) x = same_at n k x
 
 pub long : {X : Type 0} (n : ℕ) (x : X) → length (replicate n x) ≡ n
 long zero x = refl

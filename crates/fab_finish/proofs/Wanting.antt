@@ -31,10 +31,6 @@ leaves_after ps qs rs ends leaves conf lists reached = leaves conf lists (ends c
 pub goes_ends : (ps qs : List Member) → GoesOn ps qs → Ends ps qs
 goes_ends ps qs on conf lists reached = on (opened conf lists) reached
 
-pub on_err : {X E : Type 0} (r : Result X E) (P : Type 0) → P → OnErr r P
-on_err (Ok x) P p = tt
-on_err (Err e) P p = p
-
 -- ---- one peer
 
 module _ (ps : List Member) (k : ℕ) (a b : Member) (is_a : slice_get ps k ≡ Some a) where

@@ -12,7 +12,7 @@ use Rattle.fab_base.specs.declared.frames.Frame.{Frame}
 use Rattle.fab_base.specs.declared.peers.Step.{Step}
 use Rattle.fab_base.specs.declared.script.Conf.{Conf}
 use Rattle.fab_base.specs.declared.script.Line.{Line}
-use Rattle.fab_wire.specs.Frames.{last_head}
+use Rattle.fab_link.specs.Frames.{last_head}
 use Rattle.fab_link.specs.Plain.{Lane, Plain, PlainHome, fresh_lane, lane_at, left, out_of, in_of, home_of}
 use Rattle.fab_model.specs.Calls.{upto}
 use Rattle.fab_model.specs.Orders.{Reached}

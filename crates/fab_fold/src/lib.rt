@@ -2,7 +2,7 @@
 //! share and of those that it received ([`outcome`]).
 //!
 //! The definitions are in specs/Shares: who needs whose share, and what shares come to. Rounds in files and scripts stand on
-//! them (`fab_coll`), and so do collectives between threads (`fab_collectives`).
+//! them (`fab_workloads`), and so do collectives between threads (`fab_collectives`).
 #![tactic(auto)]
 
 mod coll;

@@ -1,23 +1,13 @@
 -- The items of the parts, with one item more.
-use Rattle.std.proofs.Common.{◌≡◌, ℕ, Bool, true, false, ◌&&◌, ◌||◌, not, eqb, List, [], ◌∷◌, ◌++◌, ◌∙◌, refl, arith}
+use Rattle.std.proofs.Common.{◌≡◌, ℕ, true, false, not, eqb, List, [], ◌∷◌, ◌++◌, ◌∙◌, refl}
 use Rattle.std.specs.List.{list_any}
-use Rattle.std.proofs.lemmas.Bool.Decides.{nat_tests}
 use Rattle.std.proofs.lemmas.List.Elements.{filter_map-append}
 use Rattle.std.proofs.lemmas.List.Folds.{list_any-append}
+pub use Rattle.std.proofs.lemmas.Bool.{or_parts as or_false, and_parts as and_true}
+use Rattle.fab_base.proofs.Bools.{not_true}
+use Rattle.fab_base.proofs.Numbers.{eqb_other}
 use Rattle.fab_grammar.specs.declared.items.Item.{Item}
 use Rattle.fab_grammar.specs.Before.{is_distinct, opened, opened_by}
-
-pub and_true : (a b : Bool) → (a && b) ≡ true → (a ≡ true) × (b ≡ true)
-and_true true b e = (refl, e)
-and_true false b e = cc
-
-pub or_false : (a b : Bool) → (a || b) ≡ false → (a ≡ false) × (b ≡ false)
-or_false true b e = cc
-or_false false b e = (refl, e)
-
-not_true : (a : Bool) → not a ≡ true → a ≡ false
-not_true true e = cc
-not_true false e = refl
 
 pub opened_by-append : (xs ys : List Item) → opened_by (xs ++ ys) ≡ opened_by xs ++ opened_by ys
 opened_by-append xs ys = filter_map-append opened xs ys
@@ -33,9 +23,6 @@ distinct_onto k ks none distinct = rw (none, distinct) refl
 
 any_push : (k j : ℕ) (js : List ℕ) → list_any (λ i. eqb i j) js ≡ false → eqb k j ≡ false → list_any (λ i. eqb i j) (js ++ k ∷ []) ≡ false
 any_push k j js none other = list_any-append (λ i. eqb i j) js (k ∷ []) ∙ rw (none, other) refl
-
-eqb_other : (j k : ℕ) → eqb j k ≡ false → eqb k j ≡ false
-eqb_other j k e = grind (arith, nat_tests)
 
 pub distinct_push : (ks : List ℕ) (k : ℕ) → is_distinct ks ≡ true → list_any (λ j. eqb j k) ks ≡ false → is_distinct (ks ++ k ∷ []) ≡ true
 distinct_push [] k d h = refl

@@ -1,6 +1,7 @@
 -- A line that breaks no rule.
 use Rattle.std.proofs.Common.{◌≡◌, ℕ, Bool, true, false, ◌||◌, not, List, [], ◌∷◌, Option, Some, None, refl}
 use Rattle.std.specs.Prelude.{is_none}
+use Rattle.std.proofs.lemmas.Bool.{or_parts as or_false}
 use Rattle.fab_base.specs.declared.caps.Api.{Api}
 use Rattle.fab_base.specs.declared.status.Why.{Why}
 use Rattle.fab_base.specs.declared.status.Why.TheVariants as why
@@ -15,7 +16,6 @@ use Rattle.fab_grammar.specs.Verbs.{verb_of, kind_of}
 use Rattle.fab_grammar.specs.Versions.{header_of, most_bytes}
 use Rattle.fab_words.specs.Words.{first_of}
 use Rattle.fab_grammar.specs.Rules.{Rules, is_late, is_limit, is_one_too_many, is_too_much, setting_rules, peer_rules, call_rules, kind_rules, verb_rules, header_rules, word_rules, why_of}
-use Rattle.fab_grammar.proofs.PartLemmas.{or_false}
 
 -- where no test holds, the last does not
 only_rule : (a : Bool) (u : Why) → first_of ((a, u) ∷ []) ≡ None → a ≡ false

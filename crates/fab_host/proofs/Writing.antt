@@ -1,14 +1,9 @@
 -- Numbers and lines, written piece by piece.
 use Rattle.std.proofs.Common.{◌≡◌, ℕ, ◌<◌, ◌≤◌, ◌+◌, ◌/◌, ◌%◌, ◌^◌, List, [], ◌∷◌, ◌++◌, Option, ap, sym, ◌∙◌, arith, append_assoc}
-use Rattle.std.specs.Prelude.{codes, decimal, Result, Ok, Err, OnOk}
+use Rattle.std.specs.Prelude.{codes, decimal}
 use Rattle.std.specs.Io.KnownBytes.{append_known}
 use Rattle.std.proofs.lemmas.Fmt.{decimal_step, decimal_digit}
 use Rattle.fab_outside.proofs.Pieces.{append_known-append}
-
--- what follows from a success follows where there is one
-pub on_ok : {A E P Q : Type 0} (r : Result A E) → (P → Q) → OnOk r P → OnOk r Q
-on_ok (Ok x) f p = f p
-on_ok (Err e) f p = tt
 
 -- a number of one digit is that digit
 pub one_digit : (before after : Option (List ℕ)) (n : ℕ) → n < 10 → after ≡ append_known before ((48 + n % 10) ∷ []) → after ≡ append_known before (decimal n)

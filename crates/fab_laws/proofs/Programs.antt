@@ -11,15 +11,16 @@ use Rattle.fab_model.specs.Arrivals.{made_whole}
 use Rattle.fab_model.specs.Orders.{Leads, Turn}
 use Rattle.fab_model.specs.Views.{View, IsPrefixOf, More, rule, seen}
 use Rattle.fab_model.proofs.Passes.{Passes, same, call_passes, draw_passes, head_passes, sent_passes, tail_passes}
-use Rattle.fab_model.proofs.Patient.{Within}
-use Rattle.fab_model.proofs.Grows.{Shown}
+use Rattle.fab_model.proofs.Patient.{Within, passes_within, whole_within, sent_within}
+use Rattle.fab_model.proofs.Grows.{Shown, passes_shown, raised as raised_on}
 use Rattle.fab_model.proofs.Holding.{Fenced, fenced_kept}
 use Rattle.fab_model.proofs.Parts.{more_item, more_sent, some_gives, some_is}
 use Rattle.std.proofs.lemmas.Bool.{and_from, and_parts}
+use Rattle.fab_base.proofs.Lists.{all_the_same}
 use Rattle.fab_model.proofs.Turns.{slice_get-set}
 use Rattle.fab_model.proofs.Views as views
 use Rattle.fab_laws.specs.Programs.{head_deed, tail_deed, only_where, peer, Deed, Makes, Counts, Head, Tail, Draw, Opening, Peer, deed, program}
-use Rattle.fab_laws.proofs.Levels.{all_the_same, fresh_fenced, passes_shown, passes_within, raised_on, sent_within, whole_within}
+use Rattle.fab_laws.proofs.Levels.{fresh_fenced}
 use Rattle.fab_laws.proofs.Stepping.{StepIs, at_opening, step_is, where_is}
 
 abbrev pub Own : ℕ → View Item → Peer → Type 0

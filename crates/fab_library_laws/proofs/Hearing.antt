@@ -2,7 +2,7 @@
 use Rattle.std.proofs.Common.{map, ap, ◌∙◌}
 use Rattle.std.specs.Option.{option_map}
 use Rattle.std.proofs.lemmas.Option.{slice_get-map}
-use Rattle.fab_heard.specs.Heard.{HeardIsSaid}
+use Rattle.fab_doings.specs.Heard.{HeardIsSaid}
 use Rattle.fab_library_laws.specs.Hearing.{LibraryHears}
 use Rattle.fab_library_laws.specs.Library.{opening_of, past_of}
 use Rattle.fab_library_laws.proofs.Library.{since}

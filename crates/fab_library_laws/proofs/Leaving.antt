@@ -9,10 +9,11 @@ use Rattle.std.proofs.lemmas.Option.{get_or_from_slice_get, slice_get-map, slice
 use Rattle.std.proofs.lemmas.Simd.{map-map}
 use Rattle.std.proofs.lemmas.Bool.{cases_eq, leb-true}
 use Rattle.fab_base.specs.declared.caps.Info.{Info}
-use Rattle.fab_wire.specs.Merged.{merges}
+use Rattle.fab_base.proofs.Bools.{and_true_left as first_of}
+use Rattle.fab_link.specs.Merged.{merges}
 use Rattle.fab_link.specs.Plain.{Plain}
 use Rattle.fab_model.proofs.Turns.{slice_get-set_other, slice_get-set_same}
-use Rattle.fab_table.specs.declared.fabric.Fabric.{Fabric}
+use Rattle.fab_table.specs.declared.lane_table.LaneTable.{LaneTable}
 use Rattle.fab_face.specs.Held.{IsOpen}
 use Rattle.fab_face.specs.Ports.{is_granted}
 use Rattle.fab_ep.specs.Value.{Whole}
@@ -30,7 +31,7 @@ use Rattle.fab_library_laws.specs.Closing.{AreLeft, IsKept, endpoints_of}
 use Rattle.fab_library_laws.specs.Exchanging.{AreExchanged, its_own}
 use Rattle.fab_library_laws.specs.declared.example.TheConstants.{MESSAGE}
 use Rattle.fab_library_laws.specs.Library.{AreUsed, IsLibraryRun, LibraryObeys, Thread, ports_of}
-use Rattle.fab_records.specs.Recording.{AreRecordedSome, IsRecorded, exchanged}
+use Rattle.fab_doings.specs.Recording.{AreRecordedSome, IsRecorded, exchanged}
 
 -- so a thread has a record of what its code ensures this of
 pub thread_of : (e f : Whole RingPort) (own : List Doing) → IsRecorded (ring_seen e) (ring_seen f) own → (t : Thread) × (t.endpoint ≡ f) × IsKept e t × (own_of t.doings ≡ own)
@@ -42,7 +43,7 @@ thread_of e f own recorded =
 -- ---- their ports
 
 module _ (info : Info) (selective : Bool) (all : List (Whole RingPort)) (threads : List Thread) (l : AreLeft info selective all threads) where
-  abbrev table : Fabric
+  abbrev table : LaneTable
   table = l.opened.lanes.0
 
   abbrev made : AreMade info.peers info.lane info.pool table (map port_of all)
@@ -81,7 +82,7 @@ module _ (info : Info) (selective : Bool) (all : List (Whole RingPort)) (threads
       let n = all_count in
       let e = member all zero (omega (arith, some, n)) in
       let at = port_before zero e.0 e.1 in
-      ap (λ (f : Fabric). f.peers) (sym (made.tables zero (port_of e.0) at)) ∙ (made.sizes zero (port_of e.0) at).0
+      ap (λ (f : LaneTable). f.peers) (sym (made.tables zero (port_of e.0) at)) ∙ (made.sizes zero (port_of e.0) at).0
 
   are_all : AreAll table (ports_of threads)
   are_all = record { count = length-map threads port_in ∙ l.count ∙ all_count ∙ sym peers_in; numbers = number_left; tables = table_left }
@@ -92,7 +93,7 @@ module _ (info : Info) (selective : Bool) (all : List (Whole RingPort)) (threads
     ports_same : ports ≡ ports_of threads
     ports_same = closed ∙ ap (λ es. map port_of es) (sym are) ∙ map-map port_of (λ (t : Thread). t.endpoint) threads
 
-    pub all_left : (f : Fabric) × AreAll f ports
+    pub all_left : (f : LaneTable) × AreAll f ports
     all_left = (table, subst (AreAll table) (sym ports_same) are_all)
 
     module _ (plain : List Plain) (known : All (λ (e : Whole RingPort). IsOpen (ring_seen e)) left) (gathered : Gathered ports plain) (merged : merges (map moves_of ports) ≡ true) where
@@ -211,10 +212,6 @@ second_of : (a b c d e f g h i j : Bool) → (a && b && c && d && e && f && g &&
 second_of false b c d e f g h i j all = absurd (cc)
 second_of true false c d e f g h i j all = absurd (cc)
 second_of true true c d e f g h i j all = refl
-
-first_of : (a b : Bool) → (a && b) ≡ true → a ≡ true
-first_of false b both = both
-first_of true b both = refl
 
 -- what is granted has a peer
 pub some_granted : (i : Info) → is_granted i i.peers ≡ true → 0 < i.peers

@@ -9,15 +9,15 @@ use Rattle.std.specs.Option.{option_map}
 use mathlib.Core.List.{IsPrefix}
 use Rattle.fab_base.specs.declared.caps.Info.{Info}
 use Rattle.fab_base.specs.declared.script.Conf.{Conf}
-use Rattle.fab_wire.specs.declared.moves.Move.{Move}
-use Rattle.fab_wire.specs.Merged.{merges}
+use Rattle.fab_link.specs.declared.moves.Move.{Move}
+use Rattle.fab_link.specs.Merged.{merges}
 use Rattle.fab_link.specs.Meaning.{AreFresh}
 use Rattle.fab_link.specs.Plain.{lane_at}
 use Rattle.fab_model.specs.Calls.{upto}
 use Rattle.fab_model.specs.Replay.{fresh}
 use Rattle.fab_laws.specs.Programs.{Opening, Peer, Starts, peer}
 use Rattle.fab_laws.proofs.Scripts.{starts}
-use Rattle.fab_table.specs.declared.fabric.Fabric.{Fabric}
+use Rattle.fab_table.specs.declared.lane_table.LaneTable.{LaneTable}
 use Rattle.fab_face.specs.Acts.{MovedBy, posted_to, taken_of, ways_of}
 use Rattle.fab_face.specs.Held.{AreItems, Held}
 use Rattle.fab_ep.specs.Value.{Whole}
@@ -145,7 +145,7 @@ module _ (info : Info) (selective : Bool) (all : List (Whole RingPort)) (threads
   nobody_in d s y hd past =
       let b = mapped past_of threads d y hd in
       let at = port_at d b.0 b.1 in
-      let many : peers_of (port_in b.0) ≡ length (ports_of threads) = ap (λ (f : Fabric). f.peers) (used.ports.tables d (port_in b.0) at) ∙ sym used.ports.count in
+      let many : peers_of (port_in b.0) ≡ length (ports_of threads) = ap (λ (f : LaneTable). f.peers) (used.ports.tables d (port_in b.0) at) ∙ sym used.ports.count in
       subst (λ (z : Past). z.ins s ≡ []) b.2 (nobody_taken (port_in b.0) s (omega (arith, past, many, ports_count, length-map threads past_of)))
 
   told : AreTold (map opening_of all) (map past_of threads)

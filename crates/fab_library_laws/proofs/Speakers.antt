@@ -24,8 +24,8 @@ use Rattle.fab_domain.specs.Domain.{AreOpened, IsOpened, port_of}
 use Rattle.fab_domain.specs.Seen.{ring_seen}
 use Rattle.fab_merging.proofs.Lists.{member}
 use Rattle.fab_doings.specs.Doings.{Doing, own_of}
-use Rattle.fab_heard.specs.Heard.{AllFit, Chooses, IsSimple, bytes_of, calls_by, heard, message_in, order_by, orders_to, postings, said, wanted, want_at}
-use Rattle.fab_heard.proofs.Hearing.{in_filter}
+use Rattle.fab_doings.specs.Heard.{AllFit, Chooses, IsSimple, bytes_of, calls_by, heard, message_in, order_by, orders_to, postings, said, wanted, want_at}
+use Rattle.fab_doings.proofs.Hearing.{in_filter}
 use Rattle.fab_library_laws.specs.Closing.{AreLeft, IsKept, endpoints_of}
 use Rattle.fab_library_laws.specs.Hearing.{LibraryHears}
 use Rattle.fab_library_laws.specs.Library.{IsLibraryRun, Thread}

@@ -21,10 +21,10 @@ use Rattle.fab_app.specs.Late.{ReceivesLate, ReceivesLateNot}
 use Rattle.fab_app.specs.Polls.{Waits}
 use Rattle.fab_app.specs.Progresses.{Progresses}
 use Rattle.fab_doings.specs.Doings.{Doing, Had, entries_by}
-use Rattle.fab_heard.specs.Heard.{IsSimple, calls_by, message_in, posting_by}
-use Rattle.fab_records.specs.Recording.{IsRecorded, called}
-use Rattle.fab_records.proofs.Applying.{late_recorded, late_not_recorded, progresses_recorded, same_recorded, sends_recorded, sends_not_recorded, waits_recorded}
-use Rattle.fab_records.proofs.Recording.{recorded_then}
+use Rattle.fab_doings.specs.Heard.{IsSimple, calls_by, message_in, posting_by}
+use Rattle.fab_doings.specs.Recording.{IsRecorded, called}
+use Rattle.fab_doings.proofs.Applying.{late_recorded, late_not_recorded, progresses_recorded, same_recorded, sends_recorded, sends_not_recorded, waits_recorded}
+use Rattle.fab_doings.proofs.Recording.{recorded_then}
 use Rattle.fab_library_laws.specs.Speaking.{Comes, Hears, IsAt, IsPart, Keeps, Speaks, messages, order_in, reads_by}
 
 -- ---- parts

@@ -9,7 +9,7 @@ use Rattle.fab_doings.specs.Doings.{Doing, own_of}
 use Rattle.fab_library_laws.specs.declared.example.TheConstants.{MESSAGE}
 use Rattle.fab_library_laws.specs.Closing.{endpoints_of}
 use Rattle.fab_library_laws.specs.Library.{IsLibraryRun, Thread}
-use Rattle.fab_records.specs.Recording.{AreRecordedSome, exchanged}
+use Rattle.fab_doings.specs.Recording.{AreRecordedSome, exchanged}
 
 -- what peer p is to do itself: its exchange, with buffers of zeros
 abbrev pub its_own : ℕ → List Doing

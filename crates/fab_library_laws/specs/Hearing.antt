@@ -8,7 +8,7 @@ use Rattle.fab_laws.specs.Members.{In}
 use Rattle.fab_ep.specs.Value.{Whole}
 use Rattle.fab_ring.specs.declared.port.RingPort.{RingPort}
 use Rattle.fab_doings.specs.Doings.{Doing, own_of}
-use Rattle.fab_heard.specs.Heard.{AllFit, Chooses, IsSimple, heard, said}
+use Rattle.fab_doings.specs.Heard.{AllFit, Chooses, IsSimple, heard, said}
 use Rattle.fab_library_laws.specs.Closing.{AreLeft}
 use Rattle.fab_library_laws.specs.Library.{IsLibraryRun, Thread}
 

@@ -7,11 +7,11 @@
 --     LibraryObeys           the law
 use Rattle.std.specs.Prelude.{◌≡◌, ℕ, Bool, true, List, [], length, map, Some, slice_get}
 use Rattle.fab_base.specs.declared.caps.Info.{Info}
-use Rattle.fab_wire.specs.Merged.{merges}
+use Rattle.fab_link.specs.Merged.{merges}
 use Rattle.fab_link.specs.Plain.{Plain}
 use Rattle.fab_model.specs.State.{State}
 use Rattle.fab_laws.specs.Programs.{Opening, peer}
-use Rattle.fab_table.specs.declared.fabric.Fabric.{Fabric}
+use Rattle.fab_table.specs.declared.lane_table.LaneTable.{LaneTable}
 use Rattle.fab_face.specs.Held.{IsOpen}
 use Rattle.fab_ep.specs.Value.{Whole}
 use Rattle.fab_ring.specs.declared.port.RingPort.{RingPort}
@@ -46,7 +46,7 @@ pub record AreUsed (info : Info) (selective : Bool) (all : List (Whole RingPort)
   -- `known` of each endpoint (fab_face)
   pub known : (p : ℕ) (t : Thread) → slice_get threads p ≡ Some t → IsOpen (ring_seen t.endpoint)
   -- what `gather` asks for, and its `gathered` and `merged` (fab_ring)
-  pub table : Fabric
+  pub table : LaneTable
   pub ports : AreAll table (ports_of threads)
   pub plain : List Plain
   pub gathered : Gathered (ports_of threads) plain

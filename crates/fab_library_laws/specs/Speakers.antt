@@ -17,7 +17,7 @@ use Rattle.fab_laws.specs.Members.{In}
 use Rattle.fab_ep.specs.Value.{Whole}
 use Rattle.fab_ring.specs.declared.port.RingPort.{RingPort}
 use Rattle.fab_domain.specs.Seen.{ring_seen}
-use Rattle.fab_heard.specs.Heard.{bytes_of}
+use Rattle.fab_doings.specs.Heard.{bytes_of}
 use Rattle.fab_library_laws.specs.Library.{Thread}
 use Rattle.fab_library_laws.specs.Speaking.{Hears, Speaks}
 

@@ -19,8 +19,8 @@ use Rattle.fab_face.specs.Held.{Seen}
 use Rattle.fab_app.specs.declared.completions.Polled.{Polled}
 use Rattle.fab_app.specs.declared.completions.Polled.TheVariants.{Entry, Error, Idle, More}
 use Rattle.fab_doings.specs.Doings.{Doing, entries_of}
-use Rattle.fab_heard.specs.Heard.{IsSimple, calls_by, message_in, postings}
-use Rattle.fab_records.specs.Recording.{IsRecorded}
+use Rattle.fab_doings.specs.Heard.{IsSimple, calls_by, message_in, postings}
+use Rattle.fab_doings.specs.Recording.{IsRecorded}
 
 abbrev pub order_in : Call → List Order
 order_in (Transmit order) = order ∷ []

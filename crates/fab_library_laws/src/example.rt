@@ -11,9 +11,9 @@ ghost use Rattle.fab_library_laws.specs.Exchanging.{AreExchanged, IsExchanged};
 use crate::closing::close_all;
 use fab_app::endpoint::hold_all;
 use fab_base::{Buf, Fault, Info, NoMemory};
+use fab_doings::exchange;
 use fab_domain::{RingEndpoint, endpoints};
 use fab_link::PlainPort;
-use fab_records::exchange;
 use std::alloc::Global;
 
 /// So many bytes have the messages.

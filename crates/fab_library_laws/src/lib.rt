@@ -4,7 +4,7 @@
 //! `law_doings` of `fab_doings` says so of any endpoints, where the moves of all ports merge, and the frames taken of each peer are
 //! the first of those that it posted. Here these premises are what the contracts of the library say: `endpoints` of
 //! `fab_domain` opens the endpoints, each call says what it did, and `gather` of `fab_ring` joins the ports once the threads
-//! are done. Read `specs/Library.antt`. Each thread's function says how the record goes on that its caller keeps (`fab_records`);
+//! are done. Read `specs/Library.antt`. Each thread's function says how the record goes on that its caller keeps (`fab_doings`);
 //! `close_all` has the law of just these records in its contract (`specs/Closing.antt`), and `program` is a whole program that ends by it.
 #![tactic(auto)]
 
@@ -16,8 +16,7 @@ mod example;
 
 pub use closing::{Unclosed, close_all};
 pub use example::program;
-use fab_doings::law_doings;
-use fab_heard::law_said;
+use fab_doings::{law_doings, law_said};
 
 /// Endpoints that a program opens, uses in threads and closes, whose ports are gathered, obey the laws.
 ///
@@ -32,8 +31,9 @@ pub fn law_library()
 
 /// What a thread received of another is, in order, the first of what that one sent to it, by their own records.
 ///
-/// It is said of just the records of which `close_all` says that they are a run: threads that send and receive, of which the one's receives under
-/// some contexts want the same of the other, and have room for what it sent.
+/// It holds of just the records of which `close_all` says that they are a run, where both threads only send, receive and read entries. It is
+/// about the one's receives under some contexts: these all want the same messages of the other, no other receive of the one matches any of
+/// them, and each of these has room for each of them.
 pub fn law_library_heard()
     ensures heard { LibraryHears }
 {

@@ -7,8 +7,8 @@ use Rattle.std.proofs.lemmas.List.Sums.{sum_by-set, sum_by-le}
 use Rattle.std.proofs.lemmas.List.Elements.{All-from_get_or}
 use Rattle.std.specs.List.{sum_by, All}
 use Rattle.fab_base.specs.declared.frames.Frame.{Frame}
-use Rattle.fab_wire.specs.Frames.{last_head, IsLane}
-use Rattle.fab_wire.proofs.Lanes.{last_head-push}
+use Rattle.fab_link.specs.Frames.{last_head, IsLane}
+use Rattle.fab_link.proofs.Lanes.{last_head-push}
 use Rattle.fab_link.specs.Plain.{Lane, Plain, lane_at, with_lane, left, fresh_lane, incoming}
 use Rattle.fab_link.specs.Carry.{lane_of, pipe, left_count, AreAll, Continued}
 use Rattle.fab_link.proofs.Looks.{same_lane, other_lane}

@@ -3,8 +3,8 @@ use Rattle.std.proofs.Common.{◌≡◌, ℕ, Bool, List, [], ◌∷◌, ◌++�
 use Rattle.std.specs.Prelude.{Option}
 use Rattle.fab_base.specs.declared.frames.FrameHead.{FrameHead}
 use Rattle.fab_base.specs.declared.frames.Frame.{Frame}
-use Rattle.fab_wire.specs.Frames.{last_head, MayCome}
-use Rattle.fab_wire.proofs.Lanes.{IsLane-push}
+use Rattle.fab_link.specs.Frames.{last_head, MayCome}
+use Rattle.fab_link.proofs.Lanes.{IsLane-push}
 use Rattle.fab_link.specs.Plain.{IsKept}
 
 -- a frame was brought

@@ -8,8 +8,8 @@ use Rattle.std.proofs.lemmas.Bool.Decides.{nat_tests}
 use Rattle.std.proofs.lemmas.Bool.{cases_eq}
 use Rattle.fab_base.specs.declared.frames.Frame.{Frame}
 use Rattle.fab_base.specs.declared.frames.FrameRef.{FrameRef}
-use Rattle.fab_wire.specs.Frames.{lent_frame, MayCome, last_head, IsLane}
-use Rattle.fab_wire.proofs.Lanes.{IsLane-at}
+use Rattle.fab_link.specs.Frames.{lent_frame, MayCome, last_head, IsLane}
+use Rattle.fab_link.proofs.Lanes.{IsLane-at}
 use Rattle.fab_link.specs.Meaning.{Fronted, Gives, advanced}
 use Rattle.fab_link.specs.Plain.{Lane, IsSoundLane, Plain, outgoing, incoming, looked, lent_frames, lane_at, with_lane, in_of, out_of, home_of}
 use Rattle.fab_base.specs.Counts.{counted}

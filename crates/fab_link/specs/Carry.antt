@@ -2,7 +2,7 @@
 use Rattle.std.specs.Prelude.{◌≡◌, ℕ, ◌<◌, ◌^◌, List, [], ◌++◌, length, slice_index_or}
 use Rattle.std.specs.List.{sum_by}
 use Rattle.fab_base.specs.declared.frames.Frame.{Frame}
-use Rattle.fab_wire.specs.Frames.{last_head, IsLane}
+use Rattle.fab_link.specs.Frames.{last_head, IsLane}
 use Rattle.fab_link.specs.Plain.{Lane, Plain, lane_at, left}
 
 -- the lane of port k to and from peer d

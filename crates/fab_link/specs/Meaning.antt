@@ -6,9 +6,9 @@ use Rattle.fab_base.specs.Counts.{Rose}
 use Rattle.fab_base.specs.declared.frames.FrameHead.{FrameHead}
 use Rattle.fab_base.specs.declared.frames.Frame.{Frame}
 use Rattle.fab_base.specs.declared.frames.FrameRef.{FrameRef}
-use Rattle.fab_wire.specs.declared.moves.Move.{Move}
-use Rattle.fab_wire.specs.Frames.{lent_frame, last_head, MayCome}
-use Rattle.fab_wire.specs.Owing.{begins_reply, IsOwed}
+use Rattle.fab_link.specs.declared.moves.Move.{Move}
+use Rattle.fab_link.specs.Frames.{lent_frame, last_head, MayCome}
+use Rattle.fab_link.specs.Owing.{begins_reply, IsOwed}
 
 -- one direction of a port towards one peer: what was posted to it
 pub record Outgoing : Type 0 where

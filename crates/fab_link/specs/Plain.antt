@@ -6,7 +6,7 @@ use Rattle.fab_base.specs.Counts.{counted}
 use Rattle.fab_base.specs.declared.frames.FrameHead.{FrameHead}
 use Rattle.fab_base.specs.declared.frames.Frame.{Frame}
 use Rattle.fab_base.specs.declared.frames.FrameRef.{FrameRef}
-use Rattle.fab_wire.specs.Frames.{lent_frame, IsLane}
+use Rattle.fab_link.specs.Frames.{lent_frame, IsLane}
 use Rattle.fab_link.specs.Meaning.{Outgoing, Incoming}
 
 -- what was posted to one peer

@@ -1,6 +1,6 @@
 //! One peer's part of a plain port.
 ghost use Rattle.std.specs.Prelude.{◌≡◌, ◌≢◌, ℕ, ◌+◌, ◌^◌, ◌<◌, ◌≤◌, ◌++◌, ◌∷◌, [], length, take, drop, true, false, IfErr, IfSome, IfNone, MatchOption, OnOk, OnErr, IsTrue};
-ghost use Rattle.fab_wire.specs.Frames.{frame, last_head, MayCome, IsLane};
+ghost use Rattle.fab_link.specs.Frames.{frame, last_head, MayCome, IsLane};
 ghost use Rattle.fab_link.specs.Plain.{Lane, IsSoundLane, left, incoming, looked, lent_frames, fresh_lane};
 
 use fab_base::{Buf, Frame, FrameHead, FrameRef, NoMemory};

@@ -1,7 +1,7 @@
 //! The port over lists.
 ghost use Rattle.std.specs.Prelude.{IsErrOf, ◌≡◌, ◌≢◌, ℕ, ◌+◌, ◌^◌, ◌<◌, ◌≤◌, ◌++◌, ◌∷◌, [], length, replicate, true, false, None, Some, IfSome, IfNone, MatchOption, drop, slice_index_or, IfOk, IfErr, OnOk, OnErr, slice_set};
-ghost use Rattle.fab_wire.specs.Frames.{frame, last_head, MayCome, Continues, IsLane};
-ghost use Rattle.fab_wire.specs.declared.moves.Move.TheVariants.{Post};
+ghost use Rattle.fab_link.specs.Frames.{frame, last_head, MayCome, Continues, IsLane};
+ghost use Rattle.fab_link.specs.declared.moves.Move.TheVariants.{Post};
 ghost use Rattle.fab_link.specs.Meaning.{Repays, Others, end_of, Noticed, AreFresh, GrewBy};
 ghost use Rattle.fab_base.specs.Counts.{Rose};
 ghost use Rattle.fab_link.specs.Plain.{lane_at, with_lane, left, fresh_lane, looked, lent_frames, IsSoundLane, out_of, in_of, PlainHome, home_of, take_prefix};
@@ -184,7 +184,12 @@ impl Port for PlainPort {
 
     ghost in_list = { λ h s. Some (h.in_lists s) };
 
+    // All that came of the peer was taken.
+    ghost SawNone = { λ p q s. (in_of p s).taken ≡ (lane_at p s).in_list };
+
     ghost taken_first = { λ p s. take_prefix (lane_at p s).taken (lane_at p s).in_list };
+
+    ghost none_behind = { λ p q s all. all };
 
     fn me(&self) -> u32 {
         self.me

@@ -3,9 +3,9 @@ ghost use Rattle.std.specs.Prelude.{◌≡◌, ◌≢◌, ℕ, ◌<◌, ◌++◌
 ghost use Rattle.std.specs.Borrow.{sem};
 ghost use mathlib.Core.List.{IsPrefix};
 ghost use Rattle.fab_base.specs.declared.frames.Frame.{Frame};
-ghost use Rattle.fab_wire.specs.Frames.{frame, lent_frame, Continues};
-ghost use Rattle.fab_wire.specs.declared.moves.Move.{Move};
-ghost use Rattle.fab_wire.specs.declared.moves.Move.TheVariants.{Post, Take};
+ghost use Rattle.fab_link.specs.Frames.{frame, lent_frame, Continues};
+ghost use Rattle.fab_link.specs.declared.moves.Move.{Move};
+ghost use Rattle.fab_link.specs.declared.moves.Move.TheVariants.{Post, Take};
 ghost use Rattle.fab_link.specs.Meaning.{Outgoing, Incoming, Rests, Others, end_of, Noticed, Repays, Gives, Fronted, advanced, GrewBy};
 ghost use Rattle.fab_base.specs.Counts.{Rose};
 
@@ -53,6 +53,10 @@ pub trait Port {
 
     ghost in_list: { Home → ℕ → Option (List Frame) };
 
+    // What it is for this port that a look, made while the first became the second, saw no frame of this peer behind
+    // those that were taken. Each port says it by what it has.
+    ghost SawNone: { Self → Self → ℕ → Type 0 };
+
     /// This peer's number.
     fn me(&self) -> u32
         ensures { result ≡ number self.now };
@@ -93,7 +97,7 @@ pub trait Port {
         ensures home { home self.new ≡ home self.old };
 
     /// Lends the next frame of a peer, without a copy, or answers `None` where the call itself saw
-    /// that there is none. Called again before [`advance`](Port::advance), it lends the same frame.
+    /// that there is none (`SawNone`). Called again before [`advance`](Port::advance), it lends the same frame.
     /// Where the port has in lists, it is the first of those that came and were not stepped over.
     fn front(&mut self, src: u32) -> Option<FrameRef<'_>>
         requires below { src < peer_count self.old }
@@ -114,7 +118,8 @@ pub trait Port {
             × (number new ≡ number self.old)
             × (peer_count new ≡ peer_count self.old)
             × (home new ≡ home self.old)
-            × (moves new ≡ moves self.old))) };
+            × (moves new ≡ moves self.old)
+            × IfNone result (SawNone self.old new src))) };
 
     /// Steps over the frame that [`front`](Port::front) lent last of this peer.
     fn advance(&mut self, src: u32)
@@ -133,4 +138,8 @@ pub trait Port {
     // What was taken comes first in the in list.
     ghost taken_first: { (p : Self) (s : ℕ)
         → IfSome (in_list (home p) s) (λ xs. IsPrefix (ins p s).taken xs) };
+
+    // Where such a look saw none, all of it was taken.
+    ghost none_behind: { (p q : Self) (s : ℕ) → SawNone p q s
+        → IfSome (in_list (home p) s) (λ xs. (ins p s).taken ≡ xs) };
 }

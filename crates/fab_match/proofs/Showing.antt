@@ -4,7 +4,8 @@ use Rattle.fab_base.specs.declared.items.Kind.{Kind}
 use Rattle.fab_base.specs.declared.items.Kind.TheVariants.{Msg, TagMsg, WriteReq, ReadReq, AtomicReq, Reply}
 use Rattle.fab_base.specs.declared.items.ItemHead.{ItemHead}
 use Rattle.fab_base.specs.declared.items.Want.{Want}
-use Rattle.fab_model.specs.Matching.{is_message, matches}
+use Rattle.fab_model.specs.Matching.{matches}
+use Rattle.fab_base.specs.Kinds.{is_message}
 use Rattle.fab_match.specs.Signs.{fits, sign_of}
 
 of_kind : (want : Want) (source : ℕ) (head : ItemHead) (kind : Kind) → head.kind ≡ kind → is_message kind ≡ true → fits want (sign_of source head) ≡ matches want source head

@@ -1,3 +1,10 @@
 pub mod Signs
 pub mod Matcher
 pub mod ListMatcher
+pub mod Each
+pub mod Chains
+pub mod Bins
+pub mod Bucket
+pub mod Numbers
+pub mod Filed
+pub mod BinMatcher

@@ -10,7 +10,8 @@ use Rattle.fab_base.specs.declared.items.Outcome.TheVariants.{Done}
 use Rattle.fab_base.specs.declared.items.ItemHead.{ItemHead}
 use Rattle.fab_base.specs.declared.items.Want.{Want}
 use Rattle.fab_base.specs.declared.items.Sign.{Sign}
-use Rattle.fab_model.specs.Matching.{is_tagged, matches}
+use Rattle.fab_model.specs.Matching.{matches}
+use Rattle.fab_base.specs.Kinds.{is_tagged}
 
 abbrev pub sign_of : ℕ → ItemHead → Sign
 sign_of source head = record { tagged = is_tagged head.kind; tag = head.tag; source = source }

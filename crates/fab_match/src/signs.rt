@@ -1,7 +1,8 @@
 //! What a message shows to the receives that may take it, and which of them may (fi_tagged(3)).
 ghost use Rattle.std.specs.Prelude.{◌≡◌, true};
 ghost use Rattle.fab_base.specs.declared.items.Want.{Want};
-ghost use Rattle.fab_model.specs.Matching.{is_message, matches};
+ghost use Rattle.fab_model.specs.Matching.{matches};
+ghost use Rattle.fab_base.specs.Kinds.{is_message};
 ghost use Rattle.fab_match.specs.Signs.{fits, sign_of};
 
 use fab_base::{ItemHead, Kind, Sign, Want};

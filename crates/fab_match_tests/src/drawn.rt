@@ -3,8 +3,7 @@ ghost use Rattle.std.specs.Prelude.{◌<◌};
 
 use crate::calls::{Call, apply};
 use fab_base::{Sign, Want};
-use fab_bins::BinMatcher;
-use fab_match::{ListMatcher, Matcher};
+use fab_match::{BinMatcher, ListMatcher, Matcher};
 use std::alloc::Global;
 use std::test::Fail;
 

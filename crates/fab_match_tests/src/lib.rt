@@ -1,7 +1,6 @@
-//! Tests of the matching stores, `fab_match`'s over lists and `fab_bins`'s over bins: one table of calls, whose
-//! answers both give.
+//! Tests of the matching stores, over lists and over bins (one table of calls, whose answers both give), and of the transmit half, `fab_tx`.
 //!
-//! They stand in a crate of their own, so that the two below aren't proved twice.
+//! They stand in a crate of their own, so that those below aren't proved twice.
 #![tactic(auto)]
 
 #[cfg(test)]
@@ -10,5 +9,7 @@ mod calls;
 mod drawn;
 #[cfg(test)]
 mod lists;
+#[cfg(test)]
+mod operations;
 #[cfg(test)]
 mod stores;

@@ -7,18 +7,19 @@ use lib.ListN.{get_elem?}
 use Rattle.std.specs.Prelude.{sum_by, slice_get}
 use Rattle.std.specs.List.{All}
 use Rattle.std.proofs.lemmas.List.{set-get_or, length-replicate, get_or-map, length-map, same_lists, get_or_default}
-use Rattle.std.proofs.lemmas.List.Sums.{sum_by-cons, sum_by-append, sum_by_push}
+use Rattle.std.proofs.lemmas.List.Sums.{sum_by-cons, sum_by-append, sum_by_push, get_or-le-sum_by as held_weighs}
 use Rattle.std.proofs.lemmas.List.Elements.{All-append, All-take, All-drop, All-nil}
 use Rattle.atomic_table.specs.Table.{State, step, keeps, Allows, Splits, Joins, opening}
 use Rattle.atomic_table.proofs.Lists.{at_set, set_else, set_again}
+use Rattle.fab_base.proofs.Lists.{prefix_get as kept, get_last as last_one}
+use Rattle.fab_base.proofs.Places.{at_end, sum_set}
 use Rattle.fab_meeting.specs.declared.kinds.Account.{Account}
 use Rattle.fab_meeting.specs.declared.kinds.View.{View}
 use Rattle.fab_meeting.specs.Accounts.{new_account, heard_of, spoke, heard_word, code, looked, fresh_from, everyone, nobody, only_first, but_first, both, first_of, sole}
 use Rattle.fab_meeting.specs.Rule.{IsShown, Sound, one_at, seats_at, Ruled}
 use Rattle.fab_meeting.specs.Plays.{Sat, says, looks, learns}
 use Rattle.fab_meeting.specs.Gather.{all_said, AreInOrder, IsHeard}
-use Rattle.fab_meeting.proofs.Sums.{at_end, sum_set}
-use Rattle.fab_meeting.proofs.Rows.{kept, last_one, old_or_last}
+use Rattle.fab_meeting.proofs.Rows.{old_or_last}
 
 abbrev pub St : Type 0
 St = State (Unit {0}) View
@@ -38,9 +39,6 @@ module _ {A : Type 0} (f : A → ℕ) where
   two_weigh (x ∷ xs) zero (suc j) a b ne e g = let s = sum_by-cons f x xs in let t : f x ≡ f a = ap f (mathlib.Core.Option.some-injective x a e) in let h = one_weighs xs j b g in omega arith
   two_weigh (x ∷ xs) (suc i) zero a b ne e g = let s = sum_by-cons f x xs in let t : f x ≡ f b = ap f (mathlib.Core.Option.some-injective x b g) in let h = one_weighs xs i a e in omega arith
   two_weigh (x ∷ xs) (suc i) (suc j) a b ne e g = let s = sum_by-cons f x xs in let h = two_weigh xs i j a b (λ q. ne (ap suc q)) e g in omega arith
-
-  held_weighs : (l : List A) (i : ℕ) (d : A) → i < length l → f (get_or l i d) ≤ sum_by f l
-  held_weighs l i d h = Rattle.std.proofs.lemmas.List.Sums.get_or-le-sum_by f l i d h
 
 -- ---- accounts and what was said
 

@@ -2,13 +2,13 @@
 --     Holds h act k        the act makes k of h: a frame or a draw as the endpoint does, and the peer's own act leaves what is unfinished
 --     HoldsBy h acts k     the acts do, one after another
 --     idle h               a script's peer without lines, which does frames and draws as any does
-use Rattle.std.proofs.Common.{◌≡◌, ◌+◌, ℕ, Bool, true, false, ◌==◌, List, [], ◌∷◌, ◌++◌, Option, Some, None, refl, sym, ap, ◌∙◌, subst, append-nil, get_or-set_other}
+use Rattle.std.proofs.Common.{◌≡◌, ◌+◌, ℕ, Bool, true, false, ◌==◌, List, [], ◌∷◌, ◌++◌, Option, Some, None, refl, sym, ap, ◌∙◌, subst}
 use Rattle.std.specs.Prelude.{slice_get, slice_index}
-use Rattle.std.proofs.lemmas.Bool.{eqb-true, eqb-false}
+use Rattle.std.proofs.lemmas.Bool.{eqb-true}
 use Rattle.fab_base.specs.declared.frames.Frame.{Frame}
 use Rattle.fab_base.specs.declared.frames.FrameHead.{FrameHead}
-use Rattle.fab_wire.specs.Frames.{IsLane}
-use Rattle.fab_wire.specs.Joined.{is_last}
+use Rattle.fab_link.specs.Frames.{IsLane}
+use Rattle.fab_link.specs.Joined.{is_last}
 use Rattle.fab_model.specs.State.{accepted_for}
 use Rattle.fab_model.specs.Arrivals.{do_draw}
 use Rattle.fab_model.specs.Views.{IsPrefixOf}
@@ -16,10 +16,10 @@ use Rattle.fab_model.proofs.Views.{prefix_self, prefix_prefix}
 use Rattle.fab_model.proofs.Parts.{prefix_get}
 use Rattle.fab_model.proofs.Passes.{Passes, draw_passes}
 use Rattle.fab_face.specs.Held.{Held, next_item, AreItems, IsOut, IsPlaced}
-use Rattle.fab_face.specs.Acts.{Act, Did, Took, Posted, Drew, Had, Departs, Goes, only, posted_by, posted_to, taken_by, taken_of}
+use Rattle.fab_face.specs.Acts.{Act, Did, Took, Posted, Drew, Had, Goes, only, posted_by, posted_to, taken_by, taken_of}
 use Rattle.fab_peer.specs.Turns.{Living, Joins, SameParts, Transmits}
-use Rattle.fab_peer.proofs.Cutting.{IsPlacedAt, placed_next, placed_keeps, cut_posted}
-use Rattle.fab_peer.proofs.Sending.{keeps_passes, keeps_took, next_kept, passes_at, sent_raised, sent_ready, transmits_none, transmits_then}
+use Rattle.fab_peer.proofs.Cutting.{IsPlacedAt, placed_keeps, cut_posted, cut_other}
+use Rattle.fab_peer.proofs.Sending.{keeps_passes, keeps_took, passes_at, transmits_none, transmits_then}
 use Rattle.fab_peer.proofs.Sending as sending
 use Rattle.fab_peer.proofs.Showing.{joins_same, joins_then}
 use Rattle.fab_peer.proofs.Showing as showing
@@ -85,22 +85,6 @@ transmits_by (act ∷ acts) h k (mid, one, rest) items out =
     (transmits_then h mid k (λ d. posted_by d act) (λ d. posted_to d acts) (holds_ready acts mid k rest) first.0 later.0, later.1)
 
 -- ---- those posted continue their lanes by cutting
-
-placed_kept :
-    (h k : Held) (d : ℕ) (end : Option FrameHead) → IsPrefixOf (accepted_for h.state.tx d) (accepted_for k.state.tx d) → slice_index k.state.tx.sent d ≡ slice_index h.state.tx.sent d → slice_index k.places d ≡ slice_index h.places d
-    → IsPlacedAt end h d → IsPlacedAt end k d
-placed_kept h k d end ready sent place placed =
-    subst (λ n. IsPlaced end n (next_item k.state d)) (sym place) (placed_next end (slice_index h.places d) (next_item h.state d) (next_item k.state d) (next_kept h k d ready sent place) placed)
-
--- what was posted to another peer stays
-cut_other : (h t : Held) (dest d upto : ℕ) (end : Option FrameHead) (last : Bool) → (dest == d) ≡ false → Departs last h dest upto t → IsPlacedAt end h d → IsPlacedAt end t d
-cut_other h t dest d upto end true e (room, is) placed =
-    placed_kept h t d end (subst (λ (x : Held). IsPrefixOf (accepted_for h.state.tx d) (accepted_for x.state.tx d)) (sym is) (sent_ready h.state dest d))
-    (ap (λ (x : Held). slice_index x.state.tx.sent d) is ∙ ap (λ xs. slice_index xs d) (sent_raised h.state dest) ∙ get_or-set_other h.state.tx.sent dest d (slice_index h.state.tx.sent dest + 1) 0 (λ same. eqb-false dest d e (sym same)))
-    (ap (λ (x : Held). slice_index x.places d) is ∙ get_or-set_other h.places dest d 0 0 (λ same. eqb-false dest d e (sym same))) placed
-cut_other h t dest d upto end false e is placed =
-    placed_kept h t d end ([], append-nil (accepted_for h.state.tx d) ∙ ap (λ (x : Held). accepted_for x.state.tx d) (sym is)) (ap (λ (x : Held). slice_index x.state.tx.sent d) is)
-    (ap (λ (x : Held). slice_index x.places d) is ∙ get_or-set_other h.places dest d upto 0 (λ same. eqb-false dest d e (sym same))) placed
 
 -- one act, and what is posted behind it
 one_cut : (act : Act) (h k : Held) → Holds h act k → AreItems h → IsOut h → (d : ℕ) (end : Option FrameHead) (rest : List Frame) → IsPlacedAt end h d → ((e : Option FrameHead) → IsPlacedAt e k d → IsLane e rest) → IsLane end (posted_by d act ++ rest)

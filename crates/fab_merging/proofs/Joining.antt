@@ -4,7 +4,7 @@ use Rattle.std.specs.Prelude.{slice_get, slice_index}
 use mathlib.Core.List.{IsPrefix}
 use Rattle.fab_base.specs.declared.frames.Frame.{Frame}
 use Rattle.fab_base.specs.declared.items.Item.{Item}
-use Rattle.fab_wire.specs.Joined.{AreFirst}
+use Rattle.fab_link.specs.Joined.{AreFirst}
 use Rattle.fab_model.specs.State.{accepted_for}
 use Rattle.fab_model.specs.Views.{View}
 use Rattle.fab_face.specs.Held.{Held, begun_of, next_item, AreItems, IsOut, IsPlaced}

@@ -1,8 +1,10 @@
 -- Lists of acts, and lists of pasts.
-use Rattle.std.proofs.Common.{◌≡◌, ◌≤◌, ◌<◌, ℕ, zero, suc, List, [], ◌∷◌, ◌++◌, length, map, replicate, slice_get, get_or, Some, refl, sym, ap, subst, ◌∙◌, arith, append_assoc}
+use Rattle.std.proofs.Common.{◌≡◌, ◌≤◌, ℕ, zero, suc, List, [], ◌∷◌, ◌++◌, length, map, slice_get, get_or, Some, refl, sym, ap, subst, ◌∙◌, arith}
 use Rattle.std.proofs.lemmas.Grind.{flat_map-append}
 use Rattle.std.proofs.lemmas.List.{map-append}
 use mathlib.Core.List.{IsPrefix}
+use Rattle.fab_base.specs.declared.items.Item.{Item}
+pub use Rattle.fab_base.proofs.Lists.{get_some as member}
 use Rattle.fab_face.specs.Acts.{Act, Did, Took, Posted, Drew, Had, taken_by, posted_by, ways_by, steps_by, taken_of, posted_to, ways_of, steps_of}
 use Rattle.fab_merging.specs.Pasts.{PastOf, Trail}
 use Rattle.fab_merging.specs.Law.{outs_at, ins_at}
@@ -53,16 +55,6 @@ plain_posts Had d e = refl
 
 -- ---- lists
 
-pub all_the_same : {X : Type 0} (n k : ℕ) (x : X) → get_or (replicate n x) k x ≡ x
-all_the_same zero k x = refl
-all_the_same (suc n) zero x = refl
-all_the_same (suc n) (suc k) x = all_the_same n k x
-
-pub member : {X : Type 0} (xs : List X) (k : ℕ) → k < length xs → (x : X) × (slice_get xs k ≡ Some x)
-member [] k l = absurd (omega arith)
-member (x ∷ xs) zero l = (x, refl)
-member (x ∷ xs) (suc k) l = member xs k (omega arith)
-
 pub same_list : {X : Type 0} (xs ys : List X) → length xs ≡ length ys → ((p : ℕ) (x y : X) → slice_get xs p ≡ Some x → slice_get ys p ≡ Some y → x ≡ y) → xs ≡ ys
 same_list [] [] l e = refl
 same_list [] (y ∷ ys) l e = absurd (omega (arith, l))
@@ -73,9 +65,6 @@ pub map_at : {X Y : Type 0} (f : List X → List Y) (xss : List (List X)) (p : �
 map_at f [] p e = sym e
 map_at f (xs ∷ xss) zero e = refl
 map_at f (xs ∷ xss) (suc p) e = map_at f xss p e
-
-pub prefix_then : {X : Type 0} (xs ys zs : List X) → IsPrefix xs ys → IsPrefix ys zs → IsPrefix xs zs
-prefix_then xs ys zs a b = (a.0 ++ b.0, sym (append_assoc xs a.0 b.0) ∙ ap (λ ws. ws ++ b.0) a.1 ∙ b.1)
 
 -- of two beginnings of one list, the shorter is a beginning of the longer
 pub front_of : {X : Type 0} (xs ys more rest : List X) → xs ++ more ≡ ys ++ rest → length xs ≤ length ys → IsPrefix xs ys
@@ -104,3 +93,8 @@ module _ {L K : Type 0} where
   ins_is [] p s x e = absurd (cc)
   ins_is (y ∷ pasts) zero s x e = let h : y ≡ x = cc in ap (λ (z : PastOf L K). z.ins s) h
   ins_is (y ∷ pasts) (suc p) s x e = ins_is pasts p s x e
+
+-- ---- items
+
+pub no_items : (items : List Item) (i : ℕ) (item : Item) → items ≡ [] → slice_get items i ≡ Some item → ⊥
+no_items items i item none e = let is : slice_get {X = Item} [] i ≡ Some item = subst (λ xs. slice_get xs i ≡ Some item) none e in cc (is)

@@ -4,10 +4,11 @@ use Rattle.std.proofs.lemmas.Bool.{cases_lt}
 use mathlib.Core.List.{IsPrefix}
 use Rattle.fab_base.specs.declared.items.Item.{Item}
 use Rattle.fab_base.specs.declared.script.Conf.{Conf}
+use Rattle.fab_base.proofs.Lists.{all_the_same, get_some as member}
 use Rattle.fab_model.specs.Replay.{fresh}
 use Rattle.fab_merging.specs.Pasts.{PastOf}
 use Rattle.fab_merging.specs.Law.{IsFresh, outs_at, ins_at}
-use Rattle.fab_merging.proofs.Lists.{all_the_same, member, outs_is, ins_is}
+use Rattle.fab_merging.proofs.Lists.{outs_is, ins_is}
 
 -- what an endpoint holds when it is opened
 pub start_fresh : (conf : Conf) → IsFresh (record { state = fresh conf; places = replicate conf.peers 0; begun = replicate conf.peers None; multis = [] })

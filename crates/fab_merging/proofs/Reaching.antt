@@ -5,6 +5,7 @@ use Rattle.std.proofs.lemmas.List.{map-id}
 use Rattle.std.proofs.lemmas.Option.{slice_get_within}
 use Rattle.fab_base.specs.declared.items.Item.{Item}
 use Rattle.fab_base.specs.declared.peers.Step.{Step}
+use Rattle.fab_base.proofs.Lists.{get_some as member}
 use Rattle.fab_model.specs.State.{accepted_for}
 use Rattle.fab_model.specs.Peers.{fabric}
 use Rattle.fab_model.specs.Views.{View, Walk}
@@ -18,7 +19,6 @@ use Rattle.fab_peer.proofs.Showing.{walk_shown}
 use Rattle.fab_merging.specs.Pasts.{ActedBy, Past, Trail, begun}
 use Rattle.fab_merging.specs.Law.{AreTold, ThreadsJoin, ThreadsReach}
 use Rattle.fab_merging.proofs.Holding.{Holds}
-use Rattle.fab_merging.proofs.Lists.{member}
 use Rattle.fab_merging.proofs.Threads.{Since, agrees_end, all_reached, choose}
 
 abbrev held : Living → Held

@@ -13,25 +13,27 @@ use std.Path.{fun_ext}
 use mathlib.Core.List.{IsPrefix}
 use Rattle.fab_base.specs.declared.frames.Frame.{Frame}
 use Rattle.fab_base.specs.declared.items.Item.{Item}
-use Rattle.fab_wire.specs.declared.moves.Move.{Move}
-use Rattle.fab_wire.specs.declared.moves.Move.TheVariants.{Post, Take}
-use Rattle.fab_wire.specs.Merged.{Merging, with_inside}
+use Rattle.fab_base.proofs.Lists.{all_the_same, get_some as member}
+use Rattle.fab_link.specs.declared.moves.Move.{Move}
+use Rattle.fab_link.specs.declared.moves.Move.TheVariants.{Post, Take}
+use Rattle.fab_link.specs.Merged.{Merging, with_inside}
 use Rattle.fab_model.specs.State.{accepted_for}
 use Rattle.fab_model.specs.Orders.{Leads, Reached, by}
 use Rattle.fab_model.specs.Views.{Machine, View, More, Walk, rule, seen}
 use Rattle.fab_model.proofs.Orders.{reached_more, reached_opening}
 use Rattle.fab_model.proofs.Turns.{slice_get-set_other, slice_get-set_same}
 use Rattle.fab_model.proofs.Views.{GrowsBySteps, WaitsForMore, prefix_self, walk_leads}
+use Rattle.fab_link.proofs.Merging.{inside_same, inside_from, inside_to}
 use Rattle.fab_face.specs.Held.{Held}
 use Rattle.fab_face.specs.Acts.{Act, Did, Took, Posted, Drew, Had, MovedBy, Way, way, ways_by, ways_of, taken_of, posted_to}
 use Rattle.fab_peer.specs.Turns.{Shows}
 use Rattle.fab_peer.specs.Agreed.{Agrees}
 use Rattle.fab_merging.specs.Pasts.{PastOf, Trail}
 use Rattle.fab_merging.specs.Law.{told_moves, outs_at, ins_at, AreToldOf}
-use Rattle.fab_merging.proofs.Lists.{all_the_same, taken_then, posted_then, trail_then, plain_takes, plain_posts, member, same_list, map_at, front_of, outs_is, ins_is}
+use Rattle.fab_merging.proofs.Lists.{taken_then, posted_then, trail_then, plain_takes, plain_posts, same_list, map_at, front_of, outs_is, ins_is}
 use Rattle.fab_merging.proofs.Holding.{Holds, HoldsBy, items_before}
 use Rattle.fab_merging.proofs.Joining.{agrees_by, ShowsOf, shows_sender, shows_nobody}
-use Rattle.fab_merging.proofs.Merged.{Merges, merges_order, LanesAfter, turn_is, inside_same, inside_from, inside_to}
+use Rattle.fab_merging.proofs.Merged.{Merges, merges_order, LanesAfter, turn_is}
 
 -- ---- how many frames an act moves
 

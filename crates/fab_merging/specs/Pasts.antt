@@ -9,7 +9,7 @@
 use Rattle.std.specs.Prelude.{◌≡◌, ℕ, List, [], ◌∷◌, ◌++◌, Option, Some}
 use Rattle.fab_base.specs.declared.frames.Frame.{Frame}
 use Rattle.fab_base.specs.declared.peers.Step.{Step}
-use Rattle.fab_wire.specs.declared.moves.Move.{Move}
+use Rattle.fab_link.specs.declared.moves.Move.{Move}
 use Rattle.fab_face.specs.Acts.{Act, steps_of, taken_of, posted_to, ways_of, MovedBy}
 use Rattle.fab_peer.specs.Turns.{Living, LivesBy, Told, living_of}
 

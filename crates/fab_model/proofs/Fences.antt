@@ -5,12 +5,13 @@ use Rattle.std.proofs.Common.{◌≡◌, ◌≢◌, ◌≤◌, ◌<◌, ◌+◌,
 use Rattle.std.specs.Prelude.{⊤, find}
 use Rattle.std.specs.List.{list_any}
 use Rattle.std.proofs.lemmas.Bool.{cases_eq, cases_lt, and_parts}
-use Rattle.std.proofs.lemmas.Bool.Decides.{nat_tests}
 use Rattle.std.proofs.lemmas.List.{map-append, length-map, get_or_past}
 use Rattle.std.proofs.lemmas.List.Folds.{list_any-append}
 use Rattle.fab_base.specs.declared.items.Item.{Item}
 use Rattle.fab_base.specs.declared.operations.Operation.{Operation}
 use Rattle.fab_base.specs.declared.operations.Held.{Held}
+use Rattle.fab_base.proofs.Bools.{or_true, or_false}
+use Rattle.fab_base.proofs.Numbers.{same_number as same_dest, other_number as other_dest}
 use Rattle.fab_model.specs.Matching.{remove_first}
 use Rattle.fab_model.specs.State.{Transmitting, accepted_for, held_for}
 use Rattle.fab_model.specs.Sending.{is_busy, let_out, held_back, operations_from, items_of, letting_out, going_on}
@@ -77,12 +78,6 @@ calls_to-append t (o ∷ xs) ys = go (o.dest == t) (calls_to-append t xs ys)
     go true more = ap (λ ns. o.call ∷ ns) more
     go false more = more
 
-pub same_dest : (t : ℕ) → (t == t) ≡ true
-same_dest t = grind (arith, nat_tests)
-
-other_dest : (t q : ℕ) → t ≢ q → (t == q) ≡ false
-other_dest t q differ = grind (arith, nat_tests)
-
 out_calls : (t k : ℕ) (out : List Held) → calls_to t (operations_from t k out) ≡ held_calls out
 out_calls t k [] = refl
 out_calls t k (o ∷ out) = rw (same_dest t, calls_to) (ap (λ ns. o.call ∷ ns) (out_calls t (k + 1) out))
@@ -108,10 +103,6 @@ out_and_back busy (o ∷ held) = go (busy && o.fence) (out_and_back true held)
     go : (b : Bool) → let_out true held ++ held_back true held ≡ held → elim b [ true ↦ [] | false ↦ o ∷ let_out true held ] ++ elim b [ true ↦ o ∷ held | false ↦ held_back true held ] ≡ o ∷ held
     go true more = refl
     go false more = ap (λ hs. o ∷ hs) more
-
-pub or_true : (b : Bool) → (b || true) ≡ true
-or_true true = refl
-or_true false = refl
 
 -- of what is held back none goes out, now that those that went out are live
 pub none_more : (busy : Bool) (held : List Held) → let_out (busy || not (is_empty (let_out busy held))) (held_back busy held) ≡ []
@@ -185,10 +176,6 @@ module _ (t : ℕ) (held : List Held) (tx : Transmitting) where
   busy_here : is_busy (letting_out t held tx) t ≡ (is_busy tx t || not (is_empty (let_out (is_busy tx t) held)))
   unfolding letting_out
   busy_here = list_any-append (λ (o : Operation). o.dest == t) tx.live _ ∙ ap (λ b. is_busy tx t || b) (out_busy t _ _)
-
-  or_false : (b : Bool) → (b || false) ≡ b
-  or_false true = refl
-  or_false false = refl
 
   busy_other : (q : ℕ) → t ≢ q → is_busy (letting_out t held tx) q ≡ is_busy tx q
   unfolding letting_out

@@ -1,8 +1,9 @@
 -- The first member of a list that passes a test: where it stands, what is found, and what is left without it.
-use Rattle.std.proofs.Common.{◌≡◌, ℕ, zero, suc, ◌+◌, Bool, true, false, cond, List, [], ◌∷◌, get_or, Option, Some, None, refl, sym, ap, ◌∙◌, arith}
+use Rattle.std.proofs.Common.{◌≡◌, ℕ, suc, ◌+◌, Bool, true, false, cond, List, [], ◌∷◌, get_or, Option, Some, None, refl, sym, ap, ◌∙◌, arith}
 use Rattle.std.specs.Prelude.{find, position, remove, is_some, All, IfSome}
 use Rattle.std.specs.List.{list_any, position_from}
 use Rattle.std.proofs.lemmas.Iterator.Adapters.{position_from-zero}
+use Rattle.std.proofs.lemmas.List.Elements.{All-tail, All-cons as All-onto}
 use Rattle.fab_model.specs.Matching.{remove_first}
 
 -- what is known of the first member that passes the test, k places behind the start
@@ -93,21 +94,14 @@ module _ {X : Type 0} (test : X → Bool) where
 -- ---- what holds of all
 
 module _ {X : Type 0} (test : X → Bool) (P : X → Type 0) where
-  All-tail : (x : X) (xs : List X) → All P (x ∷ xs) → All P xs
-  All-tail x xs all k d lt = all (suc k) d (omega arith)
-
-  All-onto : (x : X) (xs : List X) → P x → All P xs → All P (x ∷ xs)
-  All-onto x xs p all zero d lt = p
-  All-onto x xs p all (suc k) d lt = all k d (omega arith)
-
   rest_step : (x : X) (xs : List X) (b : Bool) → test x ≡ b → P x → All P xs → All P (remove_first test xs) → All P (remove_first test (x ∷ xs))
   rest_step x xs true t p all more = rw (t, remove_first) all
-  rest_step x xs false t p all more = rw (t, remove_first) (All-onto x (remove_first test xs) p more)
+  rest_step x xs false t p all more = rw (t, remove_first) (All-onto P x (remove_first test xs) p more)
 
   -- it holds of those that are left
   pub All-remove_first : (xs : List X) → All P xs → All P (remove_first test xs)
   All-remove_first [] all = all
-  All-remove_first (x ∷ xs) all = rest_step x xs (test x) refl (all 0 x (omega arith)) (All-tail x xs all) (All-remove_first xs (All-tail x xs all))
+  All-remove_first (x ∷ xs) all = rest_step x xs (test x) refl (all 0 x (omega arith)) (All-tail P x xs all) (All-remove_first xs (All-tail P x xs all))
 
   found_step : (x : X) (xs : List X) (b : Bool) → P x → IfSome (find test xs) P → IfSome (cond b (Some x) (find test xs)) P
   found_step x xs true p more = p
@@ -116,4 +110,4 @@ module _ {X : Type 0} (test : X → Bool) (P : X → Type 0) where
   -- and of the one that is found
   pub IfSome-find : (xs : List X) → All P xs → IfSome (find test xs) P
   IfSome-find [] all = tt
-  IfSome-find (x ∷ xs) all = found_step x xs (test x) (all 0 x (omega arith)) (IfSome-find xs (All-tail x xs all))
+  IfSome-find (x ∷ xs) all = found_step x xs (test x) (all 0 x (omega arith)) (IfSome-find xs (All-tail P x xs all))

@@ -3,6 +3,7 @@
 use Rattle.std.proofs.Common.{◌≡◌, ◌≤◌, ◌<◌, ◌+◌, ℕ, Bool, true, false, List, length, Option, Some, None, inl, inr, refl, sym, ap, subst, arith, slice_get}
 use Rattle.std.specs.Prelude.{slice_index, find}
 use Rattle.std.proofs.lemmas.Bool.{and_parts, ltb-true, eqb-true}
+use Rattle.std.proofs.lemmas.Option.{same_Some as some_same}
 use Rattle.fab_base.specs.declared.items.Item.{Item}
 use Rattle.fab_base.specs.declared.peers.Step.{Step}
 use Rattle.fab_base.specs.declared.peers.Step.TheVariants.{Do, Head, Tail, Draw, Final}
@@ -17,7 +18,7 @@ use Rattle.fab_model.specs.Arrivals.{made_whole}
 use Rattle.fab_model.specs.Calls.{Call, CancelFirst, do_call, call_of}
 use Rattle.fab_model.specs.Peers.{Actor, with_state, with_result, facts, next_line, is_again, is_of_ctx, after_call, call_line, wait_line, do_line, do_next, unread, read_next, head_step, tail_step, sent_step, draw_step, final_step, step, fabric}
 use Rattle.fab_model.specs.Views.{View, IsPrefixOf}
-use Rattle.fab_model.proofs.Parts.{get_or-set, some_is, some_same, if_is}
+use Rattle.fab_model.proofs.Parts.{get_or-set, some_is, if_is}
 use Rattle.fab_model.proofs.Passes.{Passes, same, call_passes, head_passes, draw_passes, tail_passes, sent_passes}
 
 -- ---- lines
@@ -120,10 +121,10 @@ step_is v a b Final e = final_is v a b e
 abbrev pub Shown : State → State → ℕ → Type 0
 Shown s u q = IsPrefixOf (accepted_for s.tx q) (accepted_for u.tx q) × (slice_index s.tx.sent q ≤ slice_index u.tx.sent q)
 
-passes_shown : (s u : State) → Passes s u → (q : ℕ) → Shown s u q
+pub passes_shown : (s u : State) → Passes s u → (q : ℕ) → Shown s u q
 passes_shown s u passes q = (passes.ready q, omega (arith, ap (λ xs. slice_index xs q) passes.sent))
 
-raised : (xs : List ℕ) (t q : ℕ) → slice_index xs q ≤ slice_index (raise xs t) q
+pub raised : (xs : List ℕ) (t q : ℕ) → slice_index xs q ≤ slice_index (raise xs t) q
 raised xs t q = elim (get_or-set xs t q (slice_index xs t + 1) 0) [ inl e ↦ omega (arith, e) | inr e ↦ omega (arith, e.1, ap (slice_index xs) e.0) ]
 
 shown : (v : View Item) (a b : Actor) (x : Step) → StepIs v a x b → (q : ℕ) → Shown a.state b.state q

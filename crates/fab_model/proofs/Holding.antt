@@ -4,7 +4,7 @@
 use Rattle.std.proofs.Common.{◌≡◌, ◌≤◌, ◌<◌, ◌+◌, ◌==◌, ℕ, zero, suc, Bool, true, false, ◌||◌, List, [], ◌∷◌, ◌++◌, length, map, get_or, replicate, cond, slice_get, Option, Some, None, ◌⊎◌, inl, inr, refl, sym, ◌∙◌, ap, subst, arith, rules, append_assoc, length-append, length-set}
 use Rattle.std.specs.Prelude.{⊤, find, position, slice_index_or, slice_index, slice_set, sum_by}
 use Rattle.std.specs.List.{list_any}
-use Rattle.std.proofs.lemmas.Bool.{and_parts, eqb-true, lt-ltb}
+use Rattle.std.proofs.lemmas.Bool.{and_parts, eqb-true, lt-ltb, or_parts as neither}
 use Rattle.std.proofs.lemmas.Bool.Decides.{nat_tests}
 use Rattle.std.proofs.lemmas.List.{map-append, length-replicate}
 use Rattle.std.proofs.lemmas.List.Sums.{sum_by-cons}
@@ -25,8 +25,11 @@ use Rattle.fab_base.specs.declared.peers.Step.{Step}
 use Rattle.fab_base.specs.declared.script.Bound.{Bound}
 use Rattle.fab_base.specs.declared.script.Conf.{Conf}
 use Rattle.fab_model.specs.State.{State, Receiving, Transmitting, accepted_for, held_for, awaits, in_use, lookup, coming_from, with_rx, with_tx}
-use Rattle.fab_model.specs.Complete.{at_delivery}
+use Rattle.fab_base.specs.Kinds.{at_delivery}
 use Rattle.fab_base.specs.Replies.{at_either}
+use Rattle.fab_base.proofs.Bools.{not_true}
+use Rattle.fab_base.proofs.Lists.{list_all_at}
+use Rattle.fab_base.proofs.Numbers.{le_same as calls_le}
 use Rattle.fab_model.specs.Sending.{Order, is_busy, let_out, operation_of, letting_out, going_on, accepting, transmit_fault, transmit, transmit_to, is_of_item, ending, transmitting, end_with, do_sent, is_answered_by, answering, do_answer}
 use Rattle.fab_model.specs.Receiving.{want_of}
 use Rattle.fab_model.specs.Arrivals.{keeping, made_whole, tail_to, do_tail}
@@ -38,7 +41,7 @@ use Rattle.fab_model.specs.Views.{IsPrefixOf, rule, seen}
 use Rattle.fab_model.proofs.Firsts.{not_found}
 use Rattle.fab_model.proofs.Passes.{Passes, end_passes, to_passes, call_passes, head_passes, draw_passes}
 use Rattle.fab_model.proofs.Rests.{Rests, same, then, end_rests, book_rests, fill_rests, release_rests, fault_rests, post_rests, look_rests, take_rests, drop_claimed_rests, cancel_rests, head_rests, draw_rests, request_rests}
-use Rattle.fab_model.proofs.Patient.{mapped, neither, accepted_within, list_all_at, not_true}
+use Rattle.fab_model.proofs.Patient.{mapped, accepted_within}
 use Rattle.fab_model.proofs.Replays.{reached_sound}
 use Rattle.fab_model.proofs.Turns.{slice_get-set}
 use Rattle.fab_model.proofs.Views.{rule_is}
@@ -237,9 +240,6 @@ remove_fenced s index f = go (lookup s.av index)
     go (Some _) = record { by = f.by; named = λ i t e. f.named i t (taken_away s.av index i t e); count = f.count }
 
 -- ---- every call
-
-calls_le : (a b : ℕ) → b ≡ a → a ≤ b
-calls_le a b e = omega (arith, e)
 
 reg_rests : (s : State) (key : ℕ) (access : Access) (bytes : List ℕ) → Rests s (reg s key access bytes).1
 unfolding reg

@@ -4,7 +4,7 @@ use Rattle.std.proofs.Common.{◌≡◌, ℕ, Bool, true, false, List, [], ◌�
 use Rattle.std.specs.Prelude.{find, slice_get, slice_set}
 use Rattle.std.specs.Option.{option_and_then}
 use Rattle.std.proofs.lemmas.Bool.{cases_eq}
-use Rattle.std.proofs.lemmas.Option.{slice_get_within}
+use Rattle.std.proofs.lemmas.Option.{slice_get_within, same_Some as some_same}
 use Rattle.fab_base.specs.declared.items.Item.{Item}
 use Rattle.fab_base.specs.declared.peers.Step.{Step}
 use Rattle.fab_base.specs.declared.peers.Step.TheVariants.{Do, Head, Tail, Draw, Final}
@@ -16,7 +16,7 @@ use Rattle.fab_model.specs.Calls.{Call, do_call, call_of}
 use Rattle.fab_model.specs.Orders.{Turn, Leads}
 use Rattle.fab_model.specs.Peers.{Actor, with_state, with_result, next_line, is_again, is_of_ctx, after_call, call_line, wait_line, do_line, do_next, unread, read_next, head_step, tail_step, sent_step, draw_step, final_step, step, fabric}
 use Rattle.fab_model.specs.Views.{View, rule, seen}
-use Rattle.fab_model.proofs.Parts.{some_is, some_same, if_is}
+use Rattle.fab_model.proofs.Parts.{some_is, if_is}
 use Rattle.fab_model.proofs.Grows.{StepIs, step_is}
 use Rattle.fab_model.proofs.Turns.{slice_get-set_other, slice_get-set_same}
 

@@ -1,15 +1,17 @@
 -- How operations are let out, one after another: what a loop does.
 --     going_out t o tx      the operation goes out: its item joins those accepted for t, and it is live
 --     holding t held tx     these operations are held for t
-use Rattle.std.proofs.Common.{◌≡◌, ◌<◌, ◌+◌, ◌==◌, ℕ, zero, suc, Bool, true, false, ◌&&◌, ◌||◌, List, [], ◌∷◌, ◌++◌, length, get_or, set, set-set, refl, sym, ◌∙◌, ap, ap₂, append_assoc, append-nil, length-append, get_or-set_same}
+use Rattle.std.proofs.Common.{◌≡◌, ◌<◌, ◌+◌, ◌==◌, ℕ, Bool, true, false, ◌&&◌, ◌||◌, List, [], ◌∷◌, ◌++◌, length, get_or, set, set-set, refl, sym, ◌∙◌, ap, ap₂, append_assoc, append-nil, length-append, get_or-set_same}
 use Rattle.std.specs.Prelude.{slice_set}
 use Rattle.std.proofs.lemmas.List.Folds.{list_any-append}
 use Rattle.fab_base.specs.declared.items.Item.{Item}
 use Rattle.fab_base.specs.declared.operations.Operation.{Operation}
 use Rattle.fab_base.specs.declared.operations.Held.{Held}
+use Rattle.fab_base.proofs.Bools.{or_true}
+use Rattle.fab_base.proofs.Numbers.{same_number as same_dest}
+use Rattle.fab_base.proofs.Lists.{set_same}
 use Rattle.fab_model.specs.State.{Transmitting, accepted_for, held_for}
 use Rattle.fab_model.specs.Sending.{is_busy, let_out, held_back, operation_at, operations_from, items_of, letting_out, going_on, accepting}
-use Rattle.fab_model.proofs.Fences.{same_dest, or_true}
 
 abbrev pub going_out : ℕ → Held → Transmitting → Transmitting
 going_out t o tx = record tx {
@@ -20,12 +22,7 @@ going_out t o tx = record tx {
 abbrev pub holding : ℕ → List Held → Transmitting → Transmitting
 holding t held tx = record tx { held = slice_set tx.held t held }
 
-set_same : {X : Type 0} (xs : List X) (i : ℕ) (d : X) → set xs i (get_or xs i d) ≡ xs
-set_same [] i d = refl
-set_same (x ∷ xs) zero d = refl
-set_same (x ∷ xs) (suc i) d = ap (λ ys. x ∷ ys) (set_same xs i d)
-
-fields : (a a' : List (List Item)) (s : List ℕ) (l l' : List Operation) (h h' : List (List Held)) (n : ℕ) → a ≡ a' → l ≡ l' → h ≡ h'
+pub fields : (a a' : List (List Item)) (s : List ℕ) (l l' : List Operation) (h h' : List (List Held)) (n : ℕ) → a ≡ a' → l ≡ l' → h ≡ h'
     → (let tx : Transmitting = record { accepted = a; sent = s; live = l; held = h; ops = n } in tx) ≡ (let tx : Transmitting = record { accepted = a'; sent = s; live = l'; held = h'; ops = n } in tx)
 fields a a' s l l' h h' n e f g = rw (e, f, g) refl
 

@@ -26,3 +26,7 @@ pub mod Refusals
 pub mod refused
 pub mod rows
 pub mod Members
+pub mod Removing
+pub mod Answering
+pub mod Unchanged
+pub mod Elements

@@ -1,7 +1,9 @@
 -- Parts of proofs that a machine is patient.
-use Rattle.std.proofs.Common.{◌≡◌, ℕ, zero, suc, Bool, true, false, List, [], ◌∷◌, ◌++◌, map, slice_get, set, get_or, Option, Some, None, ◌⊎◌, inl, inr, refl, sym, ◌∙◌, ap, subst, arith}
+use Rattle.std.proofs.Common.{◌≡◌, ℕ, zero, suc, Bool, true, false, List, [], ◌∷◌, map, slice_get, set, get_or, Option, Some, None, ◌⊎◌, inl, inr, refl, sym, ◌∙◌, ap, subst, arith}
 use Rattle.std.proofs.lemmas.Bool.{ltb-true, lt-ltb}
 use Rattle.std.specs.Prelude.{nat_lt}
+pub use Rattle.std.proofs.lemmas.Option.{same_Some as some_same}
+pub use Rattle.fab_base.proofs.Lists.{prefix_get}
 use Rattle.fab_model.specs.Peers.{Actor, only_if}
 use Rattle.fab_model.specs.Views.{View, More}
 
@@ -13,9 +15,6 @@ some_is (Some x) f s e = (x, refl, e)
 pub some_gives : {X S : Type 0} (o : Option X) (f : X → Option S) (x : X) (s : S) → o ≡ Some x → f x ≡ Some s → elim o [ None ↦ None | Some x ↦ f x ] ≡ Some s
 some_gives o f x s is gives = rw is gives
 
-pub some_same : {X : Type 0} (x y : X) → Some x ≡ Some y → x ≡ y
-some_same x y e = cc
-
 -- a step under a condition stands where the condition holds
 pub if_is : (holds : Bool) (a b : Actor) → only_if holds a ≡ Some b → (holds ≡ true) × (a ≡ b)
 if_is true a b e = (refl, cc)
@@ -23,12 +22,6 @@ if_is false a b e = absurd (cc)
 
 pub if_gives : (holds : Bool) (a b : Actor) → holds ≡ true → a ≡ b → only_if holds a ≡ Some b
 if_gives holds a b t e = rw t (ap Some e)
-
--- an item that is ready stays so, and what is sent stays sent
-pub prefix_get : {X : Type 0} (xs rest : List X) (k : ℕ) (x : X) → slice_get xs k ≡ Some x → slice_get (xs ++ rest) k ≡ Some x
-prefix_get [] rest k x e = absurd (cc)
-prefix_get (y ∷ xs) rest zero x e = e
-prefix_get (y ∷ xs) rest (suc k) x e = prefix_get xs rest k x e
 
 pub more_item : {Item : Type 0} (v w : View Item) (sender k : ℕ) (x : Item) → More v w → slice_get (v.ready sender) k ≡ Some x → slice_get (w.ready sender) k ≡ Some x
 more_item v w sender k x more e = subst (λ xs. slice_get xs k ≡ Some x) ((more.ready sender).1) (prefix_get (v.ready sender) ((more.ready sender).0) k x e)

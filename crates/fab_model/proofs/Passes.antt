@@ -16,7 +16,8 @@ use Rattle.fab_base.specs.declared.operations.Coming.{Coming}
 use Rattle.fab_base.specs.declared.operations.Coming.TheVariants.{Into, Keep, Throw, Request, Answer}
 use Rattle.fab_model.specs.Matching.{takes}
 use Rattle.fab_model.specs.State.{State, Transmitting, accepted_for, coming_from, lookup, with_rx, with_tx, called}
-use Rattle.fab_model.specs.Complete.{fill, release, release_multi, reply, book, at_delivery, at_match}
+use Rattle.fab_model.specs.Complete.{fill, release, release_multi, reply, book}
+use Rattle.fab_base.specs.Kinds.{at_delivery, at_match}
 use Rattle.fab_base.specs.Replies.{at_either}
 use Rattle.fab_model.specs.Sending.{Order, letting_out, going_on, accepting, transmit, transmit_to, end_with, transmitting, ending, do_sent, do_answer, answering, is_answered_by}
 use Rattle.fab_model.specs.Receiving.{Posting, give, drop_arrival, post, receive_of, taken_by, without_first, look, look_at, want_of, take_claimed, drop_claimed, claim_of, without_claim, taking, cancel, cancellable, draws}

@@ -1,10 +1,10 @@
 -- The matching machine is patient: no step that stands minds what other peers do.
 --     Within peers v s      what steps keep true of a peer's state, in this view
-use Rattle.std.proofs.Common.{◌≡◌, ◌≤◌, ◌<◌, ◌+◌, ℕ, zero, suc, Bool, true, false, not, ◌&&◌, ◌||◌, List, [], ◌∷◌, length, map, slice_get, set, get_or, Option, Some, None, option_map, inl, inr, refl, sym, ◌∙◌, ap, subst, arith, length-append, replicate}
+use Rattle.std.proofs.Common.{◌≡◌, ◌≤◌, ◌<◌, ◌+◌, ℕ, zero, suc, Bool, true, false, not, ◌&&◌, List, [], ◌∷◌, length, map, slice_get, set, get_or, Option, Some, None, option_map, inl, inr, refl, sym, ◌∙◌, ap, subst, arith, length-append}
 use Rattle.std.specs.Prelude.{slice_index, is_none}
-use Rattle.std.specs.List.{list_all, list_any}
+use Rattle.std.specs.List.{list_any}
 use Rattle.std.specs.Option.{option_map_or}
-use Rattle.std.proofs.lemmas.Bool.{cases_eq, and_parts, eqb-true}
+use Rattle.std.proofs.lemmas.Bool.{cases_eq, and_parts, eqb-true, or_parts as neither}
 use Rattle.std.proofs.lemmas.List.{length-map, length-replicate}
 use Rattle.std.proofs.lemmas.Option.{slice_get_within, slice_get-map, slice_get-get_or}
 use Rattle.fab_base.specs.declared.items.Item.{Item}
@@ -17,6 +17,8 @@ use Rattle.fab_model.specs.Matching.{remove_first}
 use Rattle.fab_model.specs.State.{State, accepted_for, raise, with_rx, with_tx, write, count, called}
 use Rattle.fab_base.specs.declared.entries.ErrKind.TheVariants.{Canceled}
 use Rattle.fab_base.specs.declared.entries.Class.TheVariants.{Recv}
+use Rattle.fab_base.proofs.Bools.{not_true}
+use Rattle.fab_base.proofs.Lists.{list_all_at, all_the_same}
 use Rattle.fab_model.specs.Complete.{error}
 use Rattle.fab_model.specs.Sending.{transmitting}
 use Rattle.fab_model.specs.Receiving.{draws, draw_due, cancel, cancel_fault, cancellable, may_leave, without_posted}
@@ -30,6 +32,7 @@ use Rattle.fab_model.proofs.Passes.{Passes}
 use Rattle.fab_model.proofs.Grows.{StepIs, step_is, tails_of, grows}
 use Rattle.fab_model.proofs.Waits.{waits}
 use Rattle.fab_model.proofs.Views.{Patient, Sound}
+use Rattle.fab_model.proofs.Elements.{length-upto}
 
 -- there is a list for each peer at the most; nothing is whole before it is sent, or sent before it is accepted
 pub record Within (peers : ℕ) (v : View Item) (s : State) : Type 0 where
@@ -42,7 +45,7 @@ Own peers v a = Within peers v a.state
 
 -- ---- what steps keep
 
-passes_within : (peers : ℕ) (v : View Item) (s u : State) → Passes s u → Within peers v s → Within peers v u
+pub passes_within : (peers : ℕ) (v : View Item) (s u : State) → Passes s u → Within peers v s → Within peers v u
 passes_within peers v s u passes within = record {
   count = omega (arith, passes.count, within.count);
   whole = λ source. omega (arith, within.whole source, ap (λ xs. slice_index xs source) passes.tails);
@@ -51,10 +54,10 @@ passes_within peers v s u passes within = record {
       omega (arith, within.sent t, ap (λ xs. slice_index xs t) passes.sent, length-append (accepted_for s.tx t) more.0, ap length more.1);
 }
 
-raised : (xs : List ℕ) (t q most : ℕ) → slice_index xs q ≤ most → (t ≡ q → slice_index xs q < most) → slice_index (raise xs t) q ≤ most
+pub raised : (xs : List ℕ) (t q most : ℕ) → slice_index xs q ≤ most → (t ≡ q → slice_index xs q < most) → slice_index (raise xs t) q ≤ most
 raised xs t q most le lt = elim (get_or-set xs t q (slice_index xs t + 1) 0) [ inl e ↦ omega (arith, e, le) | inr e ↦ omega (arith, e.1, lt e.0, ap (slice_index xs) e.0) ]
 
-whole_within : (peers : ℕ) (v : View Item) (s : State) (source : ℕ) → slice_index s.rx.tails source < v.sent source → Within peers v s → Within peers v (with_rx (made_whole source s.rx) s)
+pub whole_within : (peers : ℕ) (v : View Item) (s : State) (source : ℕ) → slice_index s.rx.tails source < v.sent source → Within peers v s → Within peers v (with_rx (made_whole source s.rx) s)
 unfolding made_whole
 whole_within peers v s source lt within = record {
   count = within.count;
@@ -62,7 +65,7 @@ whole_within peers v s source lt within = record {
   sent = within.sent;
 }
 
-sent_within : (peers : ℕ) (v : View Item) (s : State) (t : ℕ) → slice_index s.tx.sent t < length (accepted_for s.tx t) → Within peers v s → Within peers v (with_tx (transmitting t s.tx) s)
+pub sent_within : (peers : ℕ) (v : View Item) (s : State) (t : ℕ) → slice_index s.tx.sent t < length (accepted_for s.tx t) → Within peers v s → Within peers v (with_tx (transmitting t s.tx) s)
 unfolding transmitting
 sent_within peers v s t lt within = record {
   count = within.count;
@@ -87,15 +90,6 @@ owns_more peers v w a more own = record { count = own.count; whole = λ source. 
 all_below_at : (test : ℕ → Bool) (n k : ℕ) → all_below test n ≡ true → k < n → test k ≡ true
 all_below_at test zero k all lt = absurd (omega arith)
 all_below_at test (suc n) k all lt = let b = and_parts _ _ all in elim (cases_eq k n) [ inl same ↦ ap test same ∙ b.1 | inr differ ↦ all_below_at test n k b.0 (omega arith) ]
-
-pub list_all_at : {X : Type 0} (test : X → Bool) (xs : List X) (k : ℕ) (x : X) → list_all test xs ≡ true → slice_get xs k ≡ Some x → test x ≡ true
-list_all_at test [] k x all e = absurd (cc)
-list_all_at test (y ∷ xs) zero x all e = let f : y ≡ x = cc in ap test (sym f) ∙ (and_parts _ _ all).0
-list_all_at test (y ∷ xs) (suc k) x all e = list_all_at test xs k x (and_parts _ _ all).1 e
-
-pub not_true : (b : Bool) → not b ≡ true → b ≡ false
-not_true true e = absurd (cc)
-not_true false e = refl
 
 facts_at : (states : List Actor) (p : ℕ) (a : Actor) → slice_get states p ≡ Some a → slice_get (map facts states) p ≡ Some (facts a)
 facts_at states p a e = slice_get-map facts states p ∙ ap (λ o. option_map facts o) e
@@ -140,11 +134,7 @@ accepted_within (x ∷ accepted) (suc t) k lt = let ih = accepted_within accepte
 
 -- ---- a final cancel
 
-pub neither : (a b : Bool) → (a || b) ≡ false → (a ≡ false) × (b ≡ false)
-neither true b e = absurd (cc)
-neither false b e = (refl, e)
-
-still_none : {X : Type 0} (test leaves : X → Bool) (xs : List X) → list_any test xs ≡ false → list_any test (remove_first leaves xs) ≡ false
+pub still_none : {X : Type 0} (test leaves : X → Bool) (xs : List X) → list_any test xs ≡ false → list_any test (remove_first leaves xs) ≡ false
 still_none test leaves [] none = refl
 still_none test leaves (x ∷ xs) none = go (leaves x) (neither (test x) (list_any test xs) none) (λ e. still_none test leaves xs e)
   where
@@ -220,15 +210,6 @@ pub mapped : {X Y : Type 0} (f : X → Y) (xs : List X) (k : ℕ) (y : Y) → sl
 mapped f [] k y e = absurd (cc)
 mapped f (x ∷ xs) zero y e = (x, cc)
 mapped f (x ∷ xs) (suc k) y e = mapped f xs k y e
-
-all_the_same : {X : Type 0} (n k : ℕ) (x : X) → get_or (replicate n x) k x ≡ x
-all_the_same zero k x = refl
-all_the_same (suc n) zero x = refl
-all_the_same (suc n) (suc k) x = all_the_same n k x
-
-length-upto : (n : ℕ) → length (upto n) ≡ n
-length-upto zero = refl
-length-upto (suc n) = omega (arith, length-append (upto n) (n ∷ []), length-upto n)
 
 pub opening_sound : (b : Bound) → Sound fabric b.script.conf.peers (Own b.script.conf.peers) (opening b)
 unfolding opening

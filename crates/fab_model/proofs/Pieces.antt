@@ -2,11 +2,12 @@
 --     plain word          each byte of it is above the blank
 --     readable words      a line of one word or more, all plain
 --     lines_back          the lines of such a text, and behind its last line feed a line of one empty word
-use Rattle.std.proofs.Common.{◌≡◌, ◌≤◌, ◌<◌, ℕ, Bool, true, false, not, ◌&&◌, List, [], ◌∷◌, ◌++◌, map, refl, sym, ap, ◌∙◌, arith, append_assoc, eqb}
+use Rattle.std.proofs.Common.{◌≡◌, ◌≤◌, ◌<◌, ℕ, Bool, true, false, not, ◌&&◌, List, [], ◌∷◌, ◌++◌, map, refl, ap, ◌∙◌, arith, append_assoc, eqb}
 use Rattle.std.specs.Prelude.{nat_lt}
 use Rattle.std.specs.List.{join_with_byte, list_all}
 use Rattle.std.proofs.lemmas.Bool.{and_parts, and_from, eq-eqb, ne_eqb, ltb-true}
 use Rattle.std.proofs.lemmas.List.Folds.{list_all-append}
+use Rattle.fab_base.proofs.Bools.{not_true as differs}
 use Rattle.fab_model.specs.Words.{Word, text_of, onto_first, pieces_at, lines_in}
 
 -- ---- pieces
@@ -14,10 +15,6 @@ use Rattle.fab_model.specs.Words.{Word, text_of, onto_first, pieces_at, lines_in
 -- c is not a byte of it
 abbrev lacks : ℕ → List ℕ → Bool
 lacks c bytes = list_all (λ b. not (eqb b c)) bytes
-
-differs : (b : Bool) → not b ≡ true → b ≡ false
-differs true e = sym e
-differs false e = refl
 
 piece_before : (c : ℕ) (xs ys : List ℕ) → lacks c xs ≡ true → pieces_at c (xs ++ c ∷ ys) ≡ xs ∷ pieces_at c ys
 piece_before c [] ys none = rw (pieces_at, eq-eqb c c refl) refl
@@ -45,7 +42,7 @@ plain_lacks c (b ∷ word) low p =
     rw no (plain_lacks c word low parts.1)
 
 -- words with a blank between two are their line's pieces
-words_back : (word : Word) (words : List Word) → plain word ≡ true → list_all plain words ≡ true → pieces_at 32 (join_with_byte 32 (word ∷ words)) ≡ word ∷ words
+pub words_back : (word : Word) (words : List Word) → plain word ≡ true → list_all plain words ≡ true → pieces_at 32 (join_with_byte 32 (word ∷ words)) ≡ word ∷ words
 words_back word [] p ps = piece_last 32 word (plain_lacks 32 word (omega arith) p)
 words_back word (next ∷ words) p ps =
     let parts = and_parts _ _ ps in

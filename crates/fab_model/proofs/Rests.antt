@@ -11,9 +11,11 @@ use Rattle.fab_base.specs.declared.entries.PeekHow.TheVariants.{Peek, Claim, Dis
 use Rattle.fab_base.specs.declared.operations.Receive.{Receive}
 use Rattle.fab_base.specs.declared.operations.Arrival.{Arrival}
 use Rattle.fab_base.specs.declared.operations.Operation.{Operation}
+use Rattle.fab_base.proofs.Numbers.{le_same as calls_le}
 use Rattle.fab_model.specs.Matching.{takes}
 use Rattle.fab_model.specs.State.{State, with_rx, called}
-use Rattle.fab_model.specs.Complete.{fill, release, release_multi, reply, book, at_match}
+use Rattle.fab_model.specs.Complete.{fill, release, release_multi, reply, book}
+use Rattle.fab_base.specs.Kinds.{at_match}
 use Rattle.fab_model.specs.Sending.{end_with}
 use Rattle.fab_model.specs.Receiving.{Posting, give, drop_arrival, post, receive_of, taken_by, without_first, look, look_at, take_claimed, drop_claimed, claim_of, without_claim, taking, cancel, cancellable, draws}
 use Rattle.fab_model.specs.Target.{perform}
@@ -50,9 +52,6 @@ book_rests false source head s = same refl refl (omega arith)
 pub fill_rests : (r : Receive) (place source : ℕ) (head : ItemHead) (bytes : List ℕ) (s : State) → Rests s (fill r place source head bytes s)
 unfolding fill
 fill_rests r place source head bytes s = same refl refl (omega arith)
-
-calls_le : (a b : ℕ) → b ≡ a → a ≤ b
-calls_le a b e = omega (arith, e)
 
 pub release_rests : (r : Receive) (s : State) → Rests s (release r s)
 unfolding release_multi

@@ -2,6 +2,7 @@
 --     Kept P      calls, arrivals, draws, reads and the transmission of an item keep what P says
 use Rattle.std.proofs.Common.{◌≡◌, ℕ, Bool, true, false, List, Option, Some, None, subst, slice_get}
 use Rattle.std.specs.Prelude.{find}
+use Rattle.std.proofs.lemmas.Option.{same_Some as some_same}
 use Rattle.fab_base.specs.declared.items.Item.{Item}
 use Rattle.fab_base.specs.declared.items.ItemHead.{ItemHead}
 use Rattle.fab_base.specs.declared.peers.Step.{Step}
@@ -15,7 +16,7 @@ use Rattle.fab_model.specs.Arrivals.{do_head, do_draw, do_tail}
 use Rattle.fab_model.specs.Calls.{Call, CancelFirst, do_call, call_of}
 use Rattle.fab_model.specs.Peers.{Actor, with_state, with_result, next_line, is_again, is_of_ctx, after_call, call_line, wait_line, do_line, do_next, unread, reading, read_next, head_step, tail_step, sent_step, draw_step, final_step, step, fabric}
 use Rattle.fab_model.specs.Views.{View}
-use Rattle.fab_model.proofs.Parts.{some_is, some_same, if_is}
+use Rattle.fab_model.proofs.Parts.{some_is, if_is}
 
 pub record Kept (P : State → Type 0) : Type 1 where
   pub call : (s : State) (c : Call) → P s → P (do_call s c).1

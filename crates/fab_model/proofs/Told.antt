@@ -23,7 +23,7 @@ use Rattle.fab_model.proofs.Plain.{decimal_some, plain_decimal, plain_steps, oth
 
 -- ---- steps
 
-read_push : (ds : List ℕ) (d : ℕ) → read_decimal (ds ++ d ∷ []) ≡ read_decimal ds * 10 + (d - 48)
+pub read_push : (ds : List ℕ) (d : ℕ) → read_decimal (ds ++ d ∷ []) ≡ read_decimal ds * 10 + (d - 48)
 read_push ds d = fold-append (λ n digit. n * 10 + (digit - 48)) 0 ds (d ∷ [])
 
 -- std's `decimal` writes 64 digits at the most

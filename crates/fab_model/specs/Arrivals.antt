@@ -16,12 +16,13 @@ use Rattle.fab_base.specs.declared.operations.Receive.{Receive}
 use Rattle.fab_base.specs.declared.operations.Arrival.{Arrival}
 use Rattle.fab_base.specs.declared.operations.Coming.{Coming}
 use Rattle.fab_base.specs.declared.operations.Coming.TheVariants.{Into, Keep, Throw, Request, Answer}
-use Rattle.fab_model.specs.Matching.{is_message, matches, takes, remove_first, change_first}
+use Rattle.fab_model.specs.Matching.{matches, takes, remove_first, change_first}
+use Rattle.fab_base.specs.Kinds.{at_delivery, is_answered, is_message}
 use Rattle.fab_model.specs.State.{State, Receiving, Region, raise, coming_from, with_rx, write, count}
-use Rattle.fab_model.specs.Complete.{fill, release, book, reply, at_delivery}
+use Rattle.fab_model.specs.Complete.{fill, release, book, reply}
 use Rattle.fab_base.specs.Replies.{at_either}
 use Rattle.fab_model.specs.Receiving.{draws, give, without_first}
-use Rattle.fab_model.specs.Sending.{is_answered, do_answer}
+use Rattle.fab_model.specs.Sending.{do_answer}
 use Rattle.fab_model.specs.Target.{perform}
 
 -- ---- a receive that takes a message of this length

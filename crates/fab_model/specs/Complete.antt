@@ -3,8 +3,7 @@
 --     fill, release, book                     see below
 use Rattle.std.specs.Prelude.{ℕ, ◌+◌, ◌-◌, min, Bool, true, false, ◌==◌, nat_le, List, [], ◌∷◌, ◌++◌, length, take, drop, Option, Some, None, slice_set, find}
 use Rattle.fab_base.specs.declared.items.Kind.TheVariants.{Reply}
-use Rattle.fab_base.specs.declared.items.Ack.{Ack}
-use Rattle.fab_base.specs.declared.items.Ack.TheVariants.{Nothing, Delivery, Match}
+use Rattle.fab_base.specs.declared.items.Ack.TheVariants.{Nothing}
 use Rattle.fab_base.specs.declared.items.Outcome.{Outcome}
 use Rattle.fab_base.specs.declared.items.Outcome.TheVariants.{Done}
 use Rattle.fab_base.specs.declared.items.ItemHead.{ItemHead}
@@ -16,7 +15,8 @@ use Rattle.fab_base.specs.declared.entries.ErrKind.{ErrKind}
 use Rattle.fab_base.specs.declared.entries.ErrKind.TheVariants.{Truncated}
 use Rattle.fab_base.specs.declared.entries.Class.TheVariants.{Recv}
 use Rattle.fab_base.specs.declared.operations.Receive.{Receive}
-use Rattle.fab_model.specs.Matching.{is_tagged, change_first, remove_first}
+use Rattle.fab_model.specs.Matching.{change_first, remove_first}
+use Rattle.fab_base.specs.Kinds.{is_tagged}
 use Rattle.fab_model.specs.State.{State, Receiving, Transmitting, accepted_for, under_way, with_rx, write, count}
 
 -- ---- the entry of a receive
@@ -127,14 +127,3 @@ reply source op outcome bytes s = record s { tx = joining source (record { head 
 unfoldable pub book : Bool → ℕ → ItemHead → State → State
 book true source head s = reply source head.op Done [] s
 book false source head s = s
-
--- the item asks for a reply once it is delivered, once a receive has taken it, at either
-abbrev pub at_delivery : Ack → Bool
-at_delivery Delivery = true
-at_delivery Match = false
-at_delivery Nothing = false
-
-abbrev pub at_match : Ack → Bool
-at_match Match = true
-at_match Delivery = false
-at_match Nothing = false

@@ -4,19 +4,10 @@
 --     remove_first test xs, change_first test f xs      the list without it; with f of it in its place
 use Rattle.std.specs.Prelude.{ℕ, Bool, true, false, not, ◌&&◌, ◌||◌, ◌==◌, List, [], ◌∷◌, Option, Some, None, bit_or}
 use Rattle.std.specs.Bool.{beq}
-use Rattle.fab_base.specs.declared.items.Kind.{Kind}
-use Rattle.fab_base.specs.declared.items.Kind.TheVariants.{Msg, TagMsg}
+use Rattle.fab_base.specs.Kinds.{is_message, is_tagged}
 use Rattle.fab_base.specs.declared.items.ItemHead.{ItemHead}
 use Rattle.fab_base.specs.declared.items.Want.{Want}
 use Rattle.fab_base.specs.declared.operations.Arrival.{Arrival}
-
-abbrev pub is_tagged : Kind → Bool
-is_tagged TagMsg = true
-is_tagged _ = false
-
-abbrev pub is_message : Kind → Bool
-is_message Msg = true
-is_message kind = is_tagged kind
 
 -- the source is unspecified, or it is s
 abbrev pub source_fits : Option ℕ → ℕ → Bool

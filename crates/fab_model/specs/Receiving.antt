@@ -20,7 +20,8 @@ use Rattle.fab_base.specs.declared.operations.Coming.{Coming}
 use Rattle.fab_base.specs.declared.operations.Coming.TheVariants.{Into, Throw}
 use Rattle.fab_model.specs.Matching.{takes, remove_first}
 use Rattle.fab_model.specs.State.{State, Receiving, lookup, fits, under_way, called, with_rx, write, count}
-use Rattle.fab_model.specs.Complete.{fill, book, error, at_match}
+use Rattle.fab_model.specs.Complete.{fill, book, error}
+use Rattle.fab_base.specs.Kinds.{at_match}
 use Rattle.fab_model.specs.Sending.{first_fault}
 
 -- a source as a call gives it: an index of the address vector

@@ -24,11 +24,10 @@ use Rattle.fab_base.specs.declared.faults.Busy.TheVariants.{TxFull}
 use Rattle.fab_base.specs.declared.entries.Taken.TheVariants.{Success}
 use Rattle.fab_base.specs.declared.entries.Entry.{Entry}
 use Rattle.fab_base.specs.declared.entries.Entry.TheVariants.{Sent, Wrote, Updated, Fetched}
-use Rattle.fab_base.specs.declared.entries.ErrKind.{ErrKind}
-use Rattle.fab_base.specs.declared.entries.ErrKind.TheVariants.{NoKey, Access, Range}
 use Rattle.fab_base.specs.declared.entries.Class.{Class}
 use Rattle.fab_base.specs.declared.entries.Class.TheVariants.{Send}
-use Rattle.fab_model.specs.Matching.{is_message, is_tagged, remove_first}
+use Rattle.fab_model.specs.Matching.{remove_first}
+use Rattle.fab_base.specs.Kinds.{is_answered, is_message, is_tagged, refusal_of}
 use Rattle.fab_base.specs.Elements.{element_size, is_of_form}
 use Rattle.fab_base.specs.declared.items.Item.{Item}
 use Rattle.fab_base.specs.declared.operations.Operation.{Operation}
@@ -203,14 +202,6 @@ transmit_to t s o = record s { tx = accepting t (operation_of s o) s.tx; calls =
 unfoldable pub transmit : State → Order → State
 transmit s o = elim (lookup s.av o.dest) [ None ↦ s | Some t ↦ transmit_to t s o ]
 
--- a read, or a fetching or comparing atomic: its reply has bytes
-abbrev pub is_answered : ItemHead → Bool
-is_answered head = elim head.kind [
-  | ReadReq ↦ true
-  | AtomicReq ↦ elim head.atom [ None ↦ false | Some atom ↦ elim atom.form [ Base ↦ false | Fetch ↦ true | Compare ↦ true ] ]
-  | _ ↦ false
-]
-
 abbrev pub class_of : ItemHead → Class
 class_of head = elim (is_message head.kind) [
   | true ↦ Send
@@ -228,12 +219,6 @@ success_of o bytes =
       | AtomicReq ↦ elim (is_answered o.head) [ true ↦ Fetched ctx bytes | false ↦ Updated ctx ]
       | _ ↦ Sent ctx (is_tagged o.head.kind) buf
     ]
-
-abbrev pub refusal_of : Outcome → Option ErrKind
-refusal_of Done = None
-refusal_of BadKey = Some NoKey
-refusal_of BadAccess = Some Access
-refusal_of BadRange = Some Range
 
 -- what the end of an operation leaves: it counts, and its entry is written unless it is silent and succeeds
 unfoldable pub end_with : Outcome → List ℕ → Operation → State → State

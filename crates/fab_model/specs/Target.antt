@@ -10,11 +10,12 @@ use Rattle.fab_base.specs.declared.items.AtomicOp.{AtomicOp}
 use Rattle.fab_base.specs.declared.items.AtomicOp.TheVariants.{Min, Max, Sum, Prod, Lor, Land, Lxor, Bor, Band, Bxor, AtomicRead, AtomicWrite, Cswap, CswapNe, CswapLe, CswapLt, CswapGe, CswapGt, Mswap}
 use Rattle.fab_base.specs.declared.items.Num.{Num}
 use Rattle.fab_base.specs.declared.items.Num.TheVariants.{I8, I16, I32, I64, U8, U16, U32, U64}
-use Rattle.fab_base.specs.declared.items.Form.TheVariants.{Base, Fetch, Compare}
+use Rattle.fab_base.specs.declared.items.Form.TheVariants.{Compare}
 use Rattle.fab_base.specs.declared.items.Atom.{Atom}
 use Rattle.fab_base.specs.declared.items.Access.{Access}
 use Rattle.fab_base.specs.declared.items.ItemHead.{ItemHead}
 use Rattle.fab_base.specs.Elements.{element_size}
+use Rattle.fab_base.specs.Kinds.{is_base, is_read_only}
 use Rattle.fab_model.specs.Matching.{change_first}
 use Rattle.fab_model.specs.State.{Region}
 
@@ -82,14 +83,6 @@ elements (suc left) atom (t ∷ ts) operand compares =
     let old = t ∷ ts in
     bytes_of size (element atom.op atom.num (number_of (take size old)) (number_of (take size operand)) (number_of (take size compares)))
     ++ elements left atom (drop size old) (drop size operand) (drop size compares)
-
-abbrev pub is_read_only : Option Atom → Bool
-is_read_only None = false
-is_read_only (Some atom) = elim atom.op [ AtomicRead ↦ true | _ ↦ false ]
-
-abbrev pub is_base : Option Atom → Bool
-is_base None = true
-is_base (Some atom) = elim atom.form [ Base ↦ true | Fetch ↦ false | Compare ↦ false ]
 
 -- the region has the rights that the request needs
 abbrev pub may_access : Access → ItemHead → Bool

@@ -1,12 +1,12 @@
 -- An endpoint that is opened over a fresh port stands between calls.
-use Rattle.std.proofs.Common.{◌≡◌, ℕ, zero, suc, ◌≤◌, Bool, true, ◌&&◌, ◌==◌, [], Option, None, get_or, refl, ◌∙◌, arith}
-use Rattle.std.specs.Prelude.{replicate}
+use Rattle.std.proofs.Common.{◌≡◌, ℕ, ◌≤◌, Bool, true, ◌&&◌, ◌==◌, [], Option, None, refl, ◌∙◌, arith}
 use Rattle.std.proofs.lemmas.Bool.{and_parts, leb-true}
 use Rattle.std.proofs.lemmas.List.{get_or-replicate, length-replicate}
 use Rattle.fab_base.specs.Offer.{limits_of, most_message}
 use Rattle.fab_base.specs.declared.caps.Info.{Info}
 use Rattle.fab_base.specs.declared.items.Item.{Item}
 use Rattle.fab_base.specs.declared.limits.Size.TheVariants.{Peers, Lane, Pool, Tx, Rx, Cq, Log, Inject}
+use Rattle.fab_base.proofs.Lists.{all_the_same as same_at}
 use Rattle.fab_av.specs.Addresses.{Addresses}
 use Rattle.fab_link.specs.declared.port.Port.{Ghosts}
 use Rattle.fab_face.specs.Held.{Held}
@@ -25,12 +25,6 @@ log_granted i peers granted =
     let up_to_inject = and_parts (up_to_log && within (limits_of i.api Inject) i.inject) (i.message == most_message i.api) granted in
     let log = and_parts up_to_cq (within (limits_of i.api Log) i.log) (and_parts up_to_log (within (limits_of i.api Inject) i.inject) up_to_inject.0).0 in
     leb-true 4 i.log (and_parts _ _ log.1).0
-
--- the same for every peer, and for any number besides
-same_at : {X : Type 0} (n d : ℕ) (x : X) → get_or (replicate n x) d x ≡ x
-same_at zero d x = refl
-same_at (suc n) zero x = refl
-same_at (suc n) (suc d) x = same_at n d x
 
 pub opened_tied : {P : Type 0} (M : Ghosts P) (port : P) (av : Addresses) (info : Info) (selective : Bool) → av.peers ≡ M.peer_count port → IsFresh M port → 4 ≤ info.log
     → IsTied (seen M (opened port av info selective))

@@ -11,7 +11,7 @@ use Rattle.fab_cq.specs.Queues.{nothing_written}
 use Rattle.fab_rma.specs.Serving.{nothing_served}
 use Rattle.fab_rx.specs.Arriving.{nothing_arrived}
 use Rattle.fab_tx.specs.Transit.{nothing_accepted}
-use Rattle.fab_ends.specs.Members.{most_multis, nobody}
+use Rattle.fab_settling.specs.Members.{most_multis, nobody}
 use Rattle.fab_core.specs.Parts.{Parts}
 
 abbrev pub why_not : Bool → Fault

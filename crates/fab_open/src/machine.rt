@@ -10,7 +10,6 @@ use fab_av::{Av, InsertReport};
 use fab_base::{
     Access, Buf, Class, Entry, ErrEntry, Fault, FrameHead, Info, NoMemory, Refused, Text,
 };
-use fab_bins::BinMatcher;
 use fab_core::Core;
 use fab_face::keeping::{Addressing, Counting};
 use fab_face::looking::{Look, Looking};
@@ -19,6 +18,7 @@ use fab_face::multis::{MultiAsk, MultiReceiving};
 use fab_face::probing::{Probed, Probing};
 use fab_face::requesting::{Request, Requesting};
 use fab_face::targets::Targets;
+use fab_match::BinMatcher;
 use fab_mr::Regions;
 use std::alloc::Global;
 

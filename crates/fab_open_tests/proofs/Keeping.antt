@@ -7,7 +7,7 @@ use Rattle.fab_base.specs.declared.faults.Fault.TheVariants.{Again, NoMemory as 
 use Rattle.fab_base.specs.declared.faults.NoMemory.{NoMemory}
 use Rattle.fab_base.specs.declared.frames.Frame.{Frame}
 use Rattle.fab_base.specs.declared.frames.FrameHead.{FrameHead}
-use Rattle.fab_wire.specs.Frames.{last_head}
+use Rattle.fab_link.specs.Frames.{last_head}
 use Rattle.fab_model.specs.Calls.{Call}
 use Rattle.fab_face.specs.declared.events.Moved.{Moved}
 use Rattle.fab_face.specs.Acts.{Act, Went}

@@ -4,8 +4,8 @@ use Rattle.std.specs.Prelude.{◌≢◌, OnOk, replicate, slice_index_or}
 use Rattle.std.specs.Result.{is_ok}
 use Rattle.std.proofs.lemmas.List.{get_or-set_other, get_or-set_same, length-replicate}
 use Rattle.fab_base.specs.declared.frames.Frame.{Frame}
-use Rattle.fab_wire.specs.Frames.{last_head}
-use Rattle.fab_wire.proofs.Lanes.{last_head-push}
+use Rattle.fab_link.specs.Frames.{last_head}
+use Rattle.fab_link.proofs.Lanes.{last_head-push}
 use Rattle.fab_link.specs.Meaning.{AreFresh}
 use Rattle.fab_link.specs.Plain.{Lane, Plain, fresh_lane, in_of, lane_at, out_of, with_lane}
 use Rattle.fab_open_tests.specs.Came.{IsReady}

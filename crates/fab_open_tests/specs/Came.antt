@@ -13,7 +13,7 @@ use Rattle.fab_base.specs.declared.items.Ack.TheVariants.{Nothing}
 use Rattle.fab_base.specs.declared.items.ItemHead.{ItemHead}
 use Rattle.fab_base.specs.declared.items.Kind.{Kind}
 use Rattle.fab_base.specs.declared.items.Outcome.TheVariants.{Done}
-use Rattle.fab_wire.specs.Frames.{last_head}
+use Rattle.fab_link.specs.Frames.{last_head}
 use Rattle.fab_link.specs.Meaning.{AreFresh}
 use Rattle.fab_link.specs.Plain.{Plain, fresh_lane, in_of, lane_at, out_of}
 use Rattle.fab_face.specs.Held.{Seen}

@@ -1,6 +1,6 @@
 //! Endpoints whose frames are carried by hand.
 ghost use Rattle.std.specs.Prelude.{◌≡◌, ◌≢◌, ◌<◌, ℕ, true, Some};
-ghost use Rattle.fab_wire.specs.Frames.{MayCome};
+ghost use Rattle.fab_link.specs.Frames.{MayCome};
 ghost use Rattle.fab_open_tests.specs.Came.{came, Keeps};
 
 use fab_base::Frame;

@@ -1,7 +1,7 @@
 //! A receive from one of two peers that sent under one tag.
 ghost use Rattle.std.specs.Prelude.{◌≡◌, ◌≢◌, ◌<◌, ℕ, length, true, None, IfSome};
 ghost use Rattle.fab_base.specs.declared.items.Kind.TheVariants.{TagMsg};
-ghost use Rattle.fab_wire.specs.Frames.{MayCome};
+ghost use Rattle.fab_link.specs.Frames.{MayCome};
 ghost use Rattle.fab_open_tests.specs.Came.{IsNew, Keeps, came, message_head, piece_head};
 
 use crate::carried::Carried;

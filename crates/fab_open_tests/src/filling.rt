@@ -1,7 +1,7 @@
 //! A receive into which a message is under way is not cancelled.
 ghost use Rattle.std.specs.Prelude.{◌≡◌, ◌<◌, length, true, None, Some, IfSome};
 ghost use Rattle.fab_base.specs.declared.items.Kind.TheVariants.{Msg};
-ghost use Rattle.fab_wire.specs.Frames.{MayCome};
+ghost use Rattle.fab_link.specs.Frames.{MayCome};
 ghost use Rattle.fab_open_tests.specs.Came.{IsNew, Keeps, message_head, piece_head};
 
 use crate::carried::Carried;

@@ -1,6 +1,6 @@
 //! A reply that no operation awaits is taken, and nothing comes of it.
 ghost use Rattle.std.specs.Prelude.{◌≡◌, length, None, IfSome};
-ghost use Rattle.fab_wire.specs.Frames.{MayCome};
+ghost use Rattle.fab_link.specs.Frames.{MayCome};
 ghost use Rattle.fab_open_tests.specs.Came.{IsNew};
 
 use crate::carried::Carried;

@@ -1,10 +1,10 @@
 -- The files of `payload` lines, loaded one after another.
-use Rattle.std.proofs.Common.{◌≡◌, ◌<◌, ◌≤◌, ◌+◌, ℕ, suc, List, [], ◌∷◌, ◌++◌, length, take, drop, get_or, Option, Some, refl, sym, ap, subst, ◌∙◌, arith}
+use Rattle.std.proofs.Common.{◌≡◌, ◌<◌, ◌≤◌, ◌+◌, ℕ, suc, List, [], ◌∷◌, ◌++◌, length, take, drop, get_or, Option, Some, refl, sym, ap, subst, ◌∙◌}
 use Rattle.std.proofs.lemmas.List.{take_more, drop_more, take-append-drop}
-use Rattle.fab_base.specs.Counts.{Rose}
 use Rattle.fab_base.specs.declared.script.Payload.{Payload}
 use Rattle.fab_base.specs.declared.status.Status.{Status}
 use Rattle.fab_base.specs.declared.status.Status.TheVariants.{Done, Stuck, Usage, ScriptRefused, TooLong, ReadFault, WriteFault, NoMemory}
+use Rattle.fab_base.proofs.Numbers.{rose_later}
 use Rattle.fab_outside.specs.Loading.{Files, IsWhole, IsOver, AreWhole, Reaches, IsUnloaded, AreUnloaded}
 
 pub whole_length : (files : Files) (payloads : List Payload) (all : List (List ℕ)) → AreWhole files payloads all → length all ≡ length payloads
@@ -40,10 +40,6 @@ reaches files payloads i payload all below is whole = record {
   all = all;
   whole = whole;
 }
-
--- a count that rose after it did not fall
-rose_later : (old mid new : ℕ) → old ≤ mid → Rose mid new → Rose old new
-rose_later old mid new le rose = grind arith
 
 unloaded : (files : Files) (payloads : List Payload) (name : List ℕ) (old mid new : ℕ) (failed : Option (List ℕ)) (status : Status) → Reaches files payloads name → old ≤ mid → IsUnloaded files name mid new failed status
     → AreUnloaded files payloads old new failed status

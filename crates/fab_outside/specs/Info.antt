@@ -8,6 +8,7 @@ use Rattle.fab_base.specs.declared.caps.Api.TheVariants.{Two}
 use Rattle.fab_base.specs.declared.caps.Cap.{Cap}
 use Rattle.fab_base.specs.declared.caps.Caps.{Caps}
 use Rattle.fab_base.specs.declared.caps.Info.{Info}
+use Rattle.fab_base.specs.declared.limits.TheConstants.{FRAME_BYTES, INJECT_BYTES, INLINE_BYTES}
 use Rattle.fab_grammar.specs.Capabilities.{cap_name}
 use Rattle.fab_grammar.specs.Settings.{asking}
 use Rattle.fab_model.specs.Negotiation.{all_caps, granted_info}
@@ -27,8 +28,8 @@ caps_line caps = codes "caps" ∷ cap_names caps all_caps
 -- the bytes that a frame holds itself, those of a frame, of an inject call, of a message, and of an atomic's operand with its compare
 abbrev pub bytes_line : Info → List Word
 bytes_line info =
-    codes "inline" ∷ codes "64" ∷ codes "piece" ∷ codes "4096" ∷ codes "inject" ∷ decimal info.inject
-    ∷ codes "message" ∷ decimal info.message ∷ codes "atomic" ∷ codes "4096" ∷ []
+    codes "inline" ∷ decimal INLINE_BYTES ∷ codes "piece" ∷ decimal FRAME_BYTES ∷ codes "inject" ∷ decimal info.inject
+    ∷ codes "message" ∷ decimal info.message ∷ codes "atomic" ∷ decimal INJECT_BYTES ∷ []
 
 abbrev pub sizes_line : Info → List Word
 sizes_line info =

@@ -9,7 +9,7 @@ ghost use Rattle.fab_model.specs.Words.{line_of, text_of};
 ghost use Rattle.fab_outside.specs.Info.{bytes_line, cap_names, caps_line, info_lines, info_text, offer, sizes_line};
 ghost use Rattle.fab_report.specs.Texts.{after_blanks};
 
-use fab_base::{Api, CAPS, Caps, Info, NoMemory};
+use fab_base::{Api, CAPS, Caps, FRAME_BYTES, INJECT_BYTES, INLINE_BYTES, Info, NoMemory};
 use fab_grammar::{asking, cap_name};
 use fab_info::getinfo;
 use std::alloc::Global;
@@ -48,7 +48,7 @@ fn add_bytes(out: &mut String, info: &Info) -> Result<(), NoMemory>
     } = *info;
     writeln!(
         out,
-        "inline 64 piece 4096 inject {inject} message {message} atomic 4096"
+        "inline {INLINE_BYTES} piece {FRAME_BYTES} inject {inject} message {message} atomic {INJECT_BYTES}"
     )?;
     Ok(())
 }

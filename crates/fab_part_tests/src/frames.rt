@@ -1,9 +1,9 @@
 //! The frames of items of several sizes.
 ghost use Rattle.std.specs.Prelude.{◌≡◌, ◌≤◌};
-ghost use Rattle.fab_wire.specs.Frames.{IsSound};
+ghost use Rattle.fab_link.specs.Frames.{IsSound};
 
 use fab_base::{Ack, FrameHead, ItemHead, Kind, Outcome};
-use fab_wire::{Cutter, Joined, Joiner};
+use fab_link::{Cutter, Joined, Joiner};
 
 /// How many bytes a frame has, but for the last one of its item.
 const FULL: u32 = 4_096;

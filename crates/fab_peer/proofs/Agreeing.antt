@@ -8,11 +8,12 @@ use Rattle.std.proofs.Math.Seq.{drop-append_seam}
 use Rattle.fab_base.specs.declared.frames.Frame.{Frame}
 use Rattle.fab_base.specs.declared.frames.FrameHead.{FrameHead}
 use Rattle.fab_base.specs.declared.items.Item.{Item}
-use Rattle.fab_wire.specs.Frames.{IsLane, MayCome, Follows, last_head}
-use Rattle.fab_wire.specs.Joined.{is_last, grown, with_frame, joined, nothing, Gathered, IsBegun, AreFirst}
+use Rattle.fab_link.specs.Frames.{IsLane, MayCome, Follows, last_head}
+use Rattle.fab_link.specs.Joined.{is_last, grown, with_frame, joined, nothing, Gathered, IsBegun, AreFirst}
 use Rattle.fab_link.specs.Meaning.{end_of}
 use Rattle.fab_model.specs.State.{accepted_for}
 use Rattle.fab_model.proofs.Parts.{prefix_get}
+use Rattle.fab_link.proofs.Lanes.{IsLane-append as lane_append, lane_front}
 use Rattle.fab_face.specs.Held.{Held, next_item}
 use Rattle.fab_face.specs.Acts.{Act, taken_of, posted_to}
 use Rattle.fab_peer.specs.Turns.{Told, Turned, joined_from, part_at, posted_part}
@@ -21,14 +22,6 @@ use Rattle.fab_peer.proofs.Showing.{joined_append}
 use Rattle.fab_peer.proofs.Sending.{get_append}
 
 -- ---- lanes
-
-lane_append : (before : Option FrameHead) (xs ys : List Frame) → IsLane before xs → IsLane (last_head before xs) ys → IsLane before (xs ++ ys)
-lane_append before [] ys first then = then
-lane_append before (x ∷ xs) ys first then = (first.0, lane_append (Some x.head) xs ys first.1 then)
-
-lane_front : (before : Option FrameHead) (xs ys : List Frame) → IsLane before (xs ++ ys) → IsLane before xs
-lane_front before [] ys lane = tt
-lane_front before (x ∷ xs) ys lane = (lane.0, lane_front (Some x.head) xs ys lane.1)
 
 lane_at_end : (before : Option FrameHead) (xs : List Frame) (f : Frame) → IsLane before (xs ++ f ∷ []) → MayCome (last_head before xs) f
 lane_at_end before [] f lane = lane.0

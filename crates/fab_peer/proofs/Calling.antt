@@ -490,7 +490,7 @@ module _ {Home : Type 0} where
       or_true true = refl
       or_true false = refl
 
-is_at : {X : Type 0} (xs : List X) (n : ℕ) (x : X) → n < length xs → x ≡ get_or xs n x → slice_get xs n ≡ Some x
+pub is_at : {X : Type 0} (xs : List X) (n : ℕ) (x : X) → n < length xs → x ≡ get_or xs n x → slice_get xs n ≡ Some x
 is_at [] n x within found = absurd (omega (arith, within))
 is_at (y ∷ ys) zero x within found = ap Some (sym found)
 is_at (y ∷ ys) (suc n) x within found = is_at ys n x (omega (arith, within)) found

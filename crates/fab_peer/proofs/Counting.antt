@@ -4,7 +4,7 @@ use Rattle.std.specs.Prelude.{cond, find, count_by, zip, take, drop, slice_get, 
 use Rattle.std.specs.Option.{option_map}
 use Rattle.std.proofs.lemmas.Bool.{eq-eqb, eqb-true}
 use Rattle.std.proofs.lemmas.List.{take-append-le, take_more}
-use Rattle.std.proofs.lemmas.List.Sums.{sum_by-append, sum_by-cons, sum_by_push}
+use Rattle.std.proofs.lemmas.List.Sums.{sum_by-cons, sum_by_push}
 use Rattle.std.proofs.lemmas.Option.{slice_get_within, get_or_from_slice_get}
 use Rattle.fab_base.specs.declared.entries.Entry.TheVariants.{Sent, Received, Part, Released, Peeked, Read, Wrote, Updated, Fetched, RemoteData}
 use Rattle.fab_base.specs.declared.entries.ErrEntry.{ErrEntry}
@@ -17,7 +17,9 @@ use Rattle.fab_base.specs.declared.operations.Written.{Written}
 use Rattle.fab_base.specs.declared.peers.LineResult.{LineResult}
 use Rattle.fab_base.specs.declared.peers.LineResult.TheVariants.{Done, Waited}
 use Rattle.fab_base.specs.declared.script.Line.{Line}
-use Rattle.fab_wire.specs.Joined.{is_last, grown}
+use Rattle.fab_base.proofs.Bools.{and_false}
+use Rattle.fab_base.proofs.Lists.{count_by-append as count_append}
+use Rattle.fab_link.specs.Joined.{is_last, grown}
 use Rattle.fab_model.specs.Matching.{remove_first}
 use Rattle.fab_model.specs.State.{State}
 use Rattle.fab_model.specs.Calls.{Call, Transmit, Post, Look, TakeClaimed, DropClaimed, Cancel, CancelFirst, Insert, Remove, Reg, Close, Put, Show, Count}
@@ -45,9 +47,6 @@ count_cons test x xs = sum_by-cons (λ y. cond (test y) 1 0) x xs
 
 count_more : {X : Type 0} (test : X → Bool) (xs : List X) (y : X) → count_by test (xs ++ y ∷ []) ≡ count_by test xs + cond (test y) 1 0
 count_more test xs y = sum_by_push (λ x. cond (test x) 1 0) xs y
-
-count_append : {X : Type 0} (test : X → Bool) (xs ys : List X) → count_by test (xs ++ ys) ≡ count_by test xs + count_by test ys
-count_append test xs ys = sum_by-append (λ x. cond (test x) 1 0) xs ys
 
 -- a line that is done is counted with its result
 zip_more : (test : Line × LineResult → Bool) (lines : List Line) (results : List LineResult) (r : LineResult) → count_by test (zip lines results) ≤ count_by test (zip lines (results ++ r ∷ []))
@@ -271,10 +270,6 @@ module _ (lines : List Line) (results : List LineResult) (kept : List Kept) wher
   }
 
 -- ---- what a read does
-
-and_false : (b : Bool) → (b && false) ≡ false
-and_false true = refl
-and_false false = refl
 
 release_is : (ctx : ℕ) (w : Written) → is_release ctx w ≡ true → (used : ℕ) × (buf : List ℕ) × (w.entry ≡ Success (Released ctx used buf))
 release_is ctx w is = by_entry w.entry refl is

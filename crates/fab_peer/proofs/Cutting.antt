@@ -1,32 +1,29 @@
 -- The frames that a peer posts continue their lanes by cutting.
-use Rattle.std.proofs.Common.{◌≡◌, ◌<◌, ◌≤◌, ◌+◌, inl, inr, ℕ, zero, suc, Bool, true, false, ◌==◌, List, [], ◌∷◌, ◌++◌, length, Option, Some, None, refl, sym, ap, ◌∙◌, subst, arith, get_or-set_same, get_or-set_other}
+use Rattle.std.proofs.Common.{◌≡◌, ◌<◌, ◌≤◌, ◌+◌, inl, inr, ℕ, Bool, true, false, ◌==◌, List, [], ◌∷◌, ◌++◌, length, Option, Some, None, refl, sym, ap, ◌∙◌, subst, arith, get_or-set_same, get_or-set_other}
 use Rattle.std.specs.Prelude.{slice_get, slice_index}
 use Rattle.std.specs.Option.{option_map}
 use Rattle.std.proofs.lemmas.Bool.{eqb-true, eqb-false}
 use Rattle.fab_base.specs.declared.frames.Frame.{Frame}
 use Rattle.fab_base.specs.declared.frames.FrameHead.{FrameHead}
 use Rattle.fab_base.specs.declared.items.Item.{Item}
-use Rattle.fab_wire.specs.Frames.{IsLane, MayCome}
-use Rattle.fab_wire.specs.Joined.{is_last}
+use Rattle.fab_link.specs.Frames.{IsLane, MayCome}
+use Rattle.fab_link.specs.Joined.{is_last}
 use Rattle.fab_model.specs.State.{accepted_for}
 use Rattle.fab_model.specs.Views.{IsPrefixOf}
 use Rattle.fab_model.proofs.Parts.{prefix_get}
 use Rattle.fab_model.proofs.Passes.{draw_passes}
 use Rattle.fab_model.specs.Arrivals.{do_draw}
+use Rattle.fab_model.proofs.Unchanged.{sent_raised}
 use Rattle.fab_face.specs.Held.{Held, next_frame, next_item, piece, IsOut, AreItems, IsPlaced}
 use Rattle.fab_face.specs.Acts.{Act, Did, Took, Posted, Drew, Had, Departs, only, posted_by, posted_to}
 use Rattle.fab_face.proofs.Tied.{placed_continues, piece_filled, placed_last, placed_more}
+pub use Rattle.fab_face.proofs.Going.{placed_next}
 use Rattle.fab_peer.specs.Turns.{Living, actor_in, Lives, LivesBy}
-use Rattle.fab_peer.proofs.Sending.{Keeps, keeps_passes, did_passes, had_passes, passes_at, keeps_took, next_kept, sent_ready, sent_raised, transmits_one, lives_ready}
+use Rattle.fab_peer.proofs.Sending.{Keeps, keeps_passes, did_passes, had_passes, passes_at, keeps_took, next_kept, sent_ready, transmits_one, lives_ready}
 
 -- what was posted to the peer ends where its next item goes on
 abbrev pub IsPlacedAt : Option FrameHead → Held → ℕ → Type 0
 IsPlacedAt end h d = IsPlaced end (slice_index h.places d) (next_item h.state d)
-
-pub placed_next : (end : Option FrameHead) (n : ℕ) (o u : Option Item) → ((item : Item) → o ≡ Some item → u ≡ Some item) → IsPlaced end n o → IsPlaced end n u
-placed_next end zero o u keeps placed = placed
-placed_next end (suc k) None u keeps placed = absurd placed
-placed_next end (suc k) (Some item) u keeps placed = subst (λ (x : Option Item). IsPlaced end (suc k) x) (sym (keeps item refl)) placed
 
 module _ (h k : Held) (d : ℕ) (end : Option FrameHead) (ready : IsPrefixOf (accepted_for h.state.tx d) (accepted_for k.state.tx d)) (sent : slice_index k.state.tx.sent d ≡ slice_index h.state.tx.sent d) (place : slice_index k.places d ≡ slice_index h.places d) where
   placed_kept : IsPlacedAt end h d → IsPlacedAt end k d
@@ -80,7 +77,7 @@ cut_posted h t dest f end in_places next departs items out placed = by_item (nex
         )
 
 -- what was posted to another peer stays
-cut_other : (h t : Held) (dest d place : ℕ) (end : Option FrameHead) (last : Bool) → (dest == d) ≡ false → Departs last h dest place t → IsPlacedAt end h d → IsPlacedAt end t d
+pub cut_other : (h t : Held) (dest d place : ℕ) (end : Option FrameHead) (last : Bool) → (dest == d) ≡ false → Departs last h dest place t → IsPlacedAt end h d → IsPlacedAt end t d
 cut_other h t dest d place end true e (room, is) placed =
     placed_kept h t d end (subst (λ (x : Held). IsPrefixOf (accepted_for h.state.tx d) (accepted_for x.state.tx d)) (sym is) (sent_ready h.state dest d))
     (ap (λ (x : Held). slice_index x.state.tx.sent d) is ∙ ap (λ xs. slice_index xs d) (sent_raised h.state dest) ∙ get_or-set_other h.state.tx.sent dest d (slice_index h.state.tx.sent dest + 1) 0 (λ same. eqb-false dest d e (sym same)))

@@ -1,7 +1,7 @@
 -- The end of a peer: what is still posted is cancelled, and the completions are read.
 use Rattle.std.proofs.Common.{◌≡◌, ◌<◌, ◌+◌, ◌⊎◌, inl, inr, ◌||◌, ◌&&◌, Bool, true, false, not, cond, List, [], ◌∷◌, ◌++◌, length, Option, Some, None, refl, sym, ap, ◌∙◌, subst, arith, append-nil, append_assoc}
 use Rattle.std.specs.Prelude.{find, is_some, is_none}
-use Rattle.std.specs.List.{list_all, list_any}
+use Rattle.std.specs.List.{list_all}
 use Rattle.std.proofs.lemmas.Bool.{and_from}
 use Rattle.std.proofs.lemmas.List.Folds.{list_all-append}
 use Rattle.fab_base.specs.declared.entries.Class.TheVariants.{Recv}
@@ -22,6 +22,7 @@ use Rattle.fab_model.specs.Calls.{Call, CancelFirst, do_call, answer}
 use Rattle.fab_model.specs.Peers.{Actor, Facts, facts, fabric, step, final_step, with_state, is_again, is_finished, unread, read_next}
 use Rattle.fab_model.specs.Views.{View, Walk}
 use Rattle.fab_model.proofs.Parts.{some_is, some_same, if_gives}
+use Rattle.fab_model.proofs.Patient.{still_none}
 use Rattle.fab_face.specs.Held.{Held, Seen, IsOpen}
 use Rattle.fab_face.specs.Acts.{Act, Did, Took, Posted, Drew, Had, GoesBy, steps_of, events, is_draw}
 use Rattle.fab_face.specs.Answers.{AllAre, Receives, ReceivesNot, IsShort}
@@ -86,19 +87,6 @@ refused_first false false x y why s after room e = let same : Done ≡ Refused w
 call_refuses : (s : State) (why : Fault) → draw_due s.rx ≡ false → fits (cancel s (λ r. true)).cq ≡ true → do_call s CancelFirst ≡ (Refused why, s) → why ≡ NoEntry
 unfolding do_call cancel_fault
 call_refuses s why due room e = refused_first (is_none (cancellable (λ r. true) s.rx)) (lacks_room s (cancel s (λ r. true))) NoEntry _ why s (cancel s (λ r. true)) (rw (due, room) refl) e
-
-neither : (a b : Bool) → (a || b) ≡ false → (a ≡ false) × (b ≡ false)
-neither true b e = absurd (cc)
-neither false b e = (refl, e)
-
-still_none : {X : Type 0} (test leaves : X → Bool) (xs : List X) → list_any test xs ≡ false → list_any test (remove_first leaves xs) ≡ false
-still_none test leaves [] none = refl
-still_none test leaves (x ∷ xs) none = go (leaves x) (neither (test x) (list_any test xs) none) (λ e. still_none test leaves xs e)
-  where
-    go : (left : Bool) → (test x ≡ false) × (list_any test xs ≡ false) → (list_any test xs ≡ false → list_any test (remove_first leaves xs) ≡ false)
-        → list_any test (elim left [ true ↦ xs | false ↦ x ∷ remove_first leaves xs ]) ≡ false
-    go true e rest = e.1
-    go false e rest = rw (e.0, rest e.1) refl
 
 fewer_by : {X : Type 0} (left : Bool) (x : X) (xs rest : List X) → (left ≡ false → length rest < length xs) → length (let ys : List X = elim left [ true ↦ xs | false ↦ x ∷ rest ] in ys) < length (x ∷ xs)
 fewer_by true x xs rest less = omega arith

@@ -1,11 +1,12 @@
 -- When nothing moved, nothing can.
-use Rattle.std.proofs.Common.{◌≡◌, ◌≤◌, ◌+◌, inl, inr, ◌^◌, ℕ, Bool, true, false, ◌||◌, List, [], ◌∷◌, ◌++◌, length, append-nil, map, None, Ok, refl, sym, ap, ◌∙◌, subst, arith}
+use Rattle.std.proofs.Common.{◌≡◌, ◌+◌, inl, inr, Bool, true, ◌||◌, List, [], ◌∷◌, ◌++◌, length, append-nil, map, None, Ok, refl, sym, ap, ◌∙◌, subst, arith}
 use Rattle.std.proofs.lemmas.List.Sums.{sum_by-cons}
 use Rattle.std.specs.Prelude.{cond, count_by, nat_lt}
-use Rattle.std.proofs.lemmas.Bool.{lt-ltb, cases_eq}
+use Rattle.std.proofs.lemmas.Bool.{lt-ltb}
+use Rattle.fab_base.proofs.Bools.{or_true}
+use Rattle.fab_base.proofs.Numbers.{rose_later as then_rose}
 use Rattle.fab_face.proofs.Joining.{ported_same}
 use Rattle.fab_peer.proofs.Paths.{moves_live, steps_told, none_acts}
-use Rattle.fab_base.specs.Counts.{Rose}
 use Rattle.fab_face.specs.declared.events.Moved.{Moved}
 use Rattle.fab_face.specs.declared.events.Stop.{Stop}
 use Rattle.fab_face.specs.declared.events.Stop.TheVariants.{Idle, Budget, CqFull as StoppedCqFull, LogFull as StoppedLogFull}
@@ -17,13 +18,6 @@ use Rattle.fab_peer.proofs.Counting.{counted_moves}
 use Rattle.fab_face.proofs.Holding.{never_held}
 
 -- ---- counts
-
-rose_by : (a c : ℕ) → a ≤ c → (a ≡ c → c + 1 ≡ 2 ^ 64) → Rose a c
-rose_by a c le last = elim (cases_eq a c) [ inl same ↦ inr (same, last same) | inr other ↦ inl (omega (arith, other, le)) ]
-
-then_rose : (a b c : ℕ) → a ≤ b → Rose b c → Rose a c
-then_rose a b c le (inl less) = inl (omega (arith, less, le))
-then_rose a b c le (inr last) = (let same = last.0 in let end = last.1 in rose_by a c (omega (arith, same, le)) (λ is. end))
 
 module _ {Home : Type 0} where
   -- what a later part of a turn saw, the turn saw
@@ -44,10 +38,6 @@ module _ {Home : Type 0} where
       }
 
 -- ---- progress
-
-or_true : (b : Bool) → (b || true) ≡ true
-or_true true = refl
-or_true false = refl
 
 pos : (test : Act → Bool) (act : Act) (acts : List Act) → test act ≡ true → nat_lt 0 (count_by test (act ∷ acts)) ≡ true
 pos test act acts is =

@@ -11,7 +11,7 @@ use Rattle.fab_face.specs.declared.events.Event.{Event}
 use Rattle.fab_face.specs.Held.{Held}
 use Rattle.fab_face.proofs.Joining.{ported_then}
 use Rattle.fab_face.specs.Acts.{Act, Did, Took, Posted, Drew, Had, GoesBy, events, logged, steps_by, steps_of, only, is_first, is_move, is_post, is_draw}
-use Rattle.fab_wire.specs.Joined.{is_last}
+use Rattle.fab_link.specs.Joined.{is_last}
 use Rattle.fab_face.specs.Answers.{AllAre}
 use Rattle.fab_peer.specs.Turns.{Told, Living, living_of, LivesBy, Lived, step_of, is_some_act, is_some_event}
 

@@ -7,7 +7,7 @@ use Rattle.fab_base.specs.declared.items.Item.{Item}
 use Rattle.fab_model.specs.State.{accepted_for}
 use Rattle.fab_face.specs.Held.{Held, begun_of, next_frame, next_item, piece}
 use Rattle.fab_peer.specs.Turns.{Joins, Transmits, joined_from, part_at, posted_part}
-use Rattle.fab_wire.specs.Joined.{IsBegun}
+use Rattle.fab_link.specs.Joined.{IsBegun}
 use Rattle.std.proofs.lemmas.List.{take-append-drop}
 
 -- nothing waits: all that was accepted is transmitted
@@ -50,11 +50,6 @@ all_arrived first last fresh now p q posted taken t j part sent begun tails same
     )
 
 -- ---- what a sender shows at any of its moments
-
-drop_get : {X : Type 0} (xs : List X) (k : ℕ) (x : X) → slice_get xs k ≡ Some x → drop k xs ≡ x ∷ drop (suc k) xs
-drop_get [] k x e = absurd (cc)
-drop_get (y ∷ xs) zero x e = let same : y ≡ x = cc in ap (λ z. z ∷ xs) same
-drop_get (y ∷ xs) (suc k) x e = drop_get xs k x e
 
 begun_part : (n : ℕ) (next : Option Item) (rest : List Item) → ((item : Item) → next ≡ Some item → (later : List Item) × (rest ≡ item ∷ later)) → IsBegun (part_at n next) rest
 begun_part zero next rest there = tt

@@ -8,8 +8,8 @@ use Rattle.fab_base.specs.declared.frames.Frame.{Frame}
 use Rattle.fab_base.specs.declared.items.Item.{Item}
 use Rattle.fab_base.specs.declared.items.ItemHead.{ItemHead}
 use Rattle.fab_base.specs.declared.peers.Step.TheVariants.{Do, Read as ReadStep}
-use Rattle.fab_wire.specs.Cut.{IsItem}
-use Rattle.fab_wire.specs.Joined.{is_last, grown, bytes_of, Gathered}
+use Rattle.fab_link.specs.Cut.{IsItem}
+use Rattle.fab_link.specs.Joined.{is_last, grown, bytes_of, Gathered}
 use Rattle.fab_model.specs.State.{State, accepted_for, raise}
 use Rattle.fab_model.specs.Sending.{do_sent, transmitting}
 use Rattle.fab_model.specs.Arrivals.{do_draw, do_tail}
@@ -19,6 +19,7 @@ use Rattle.fab_model.proofs.Views.{prefix_self, prefix_prefix}
 use Rattle.fab_model.proofs.Grows.{step_is}
 use Rattle.fab_model.proofs.Parts.{prefix_get}
 use Rattle.fab_model.proofs.Passes.{Passes, head_passes, tail_passes, sent_passes, draw_passes}
+pub use Rattle.fab_model.proofs.Unchanged.{sent_raised}
 use Rattle.fab_face.specs.Held.{Held, next_frame, next_item, piece, IsOut, IsOutAt, AreItems}
 use Rattle.fab_face.specs.Acts.{Act, Did, Took, Posted, Drew, Had, Ends, Departs, headed, is_first, only, posted_by, posted_to}
 use Rattle.fab_peer.specs.Turns.{Living, actor_in, Lives, LivesBy, Transmits, joined_from, part_at, posted_part}
@@ -130,10 +131,6 @@ transmits_none h k keeps out = (
 pub sent_ready : (s : State) (t d : ℕ) → IsPrefixOf (accepted_for s.tx d) (accepted_for (do_sent s t).tx d)
 unfolding transmitting
 sent_ready s t d = (sent_passes s t).ready d
-
-pub sent_raised : (s : State) (t : ℕ) → (do_sent s t).tx.sent ≡ raise s.tx.sent t
-unfolding transmitting
-sent_raised s t = (sent_passes s t).sent
 
 module _ (h t : Held) (dest : ℕ) (item : Item) (in_places : dest < length h.places) (in_sent : dest < length h.state.tx.sent) (next : next_item h.state dest ≡ Some item) (whole : IsItem item) (out : IsOut h) where
   pub piece_last : is_last (piece item (slice_index h.places dest)).head ≡ true → t ≡ record h { state = do_sent h.state dest; places = slice_set h.places dest 0 }

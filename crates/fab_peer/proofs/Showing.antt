@@ -1,17 +1,19 @@
 -- What frames join to, and that a peer's acts are steps of the machine wherever their frames are shown.
-use Rattle.std.proofs.Common.{◌≡◌, ◌<◌, ◌≤◌, ◌+◌, ℕ, zero, suc, Bool, true, false, not, ◌&&◌, ◌==◌, List, [], ◌∷◌, ◌++◌, length, length-append, drop, Option, Some, None, refl, sym, ap, ◌∙◌, subst, arith, append-nil, append_assoc, get_or-set_same, get_or-set_other}
+use Rattle.std.proofs.Common.{◌≡◌, ◌<◌, ◌≤◌, ◌+◌, ℕ, zero, suc, Bool, true, false, not, ◌==◌, List, [], ◌∷◌, ◌++◌, length, length-append, drop, Option, Some, None, refl, sym, ap, ◌∙◌, subst, arith, append-nil, append_assoc, get_or-set_same, get_or-set_other}
 use Rattle.std.specs.Prelude.{slice_get, slice_index, slice_index_or, fold}
 use Rattle.std.specs.Option.{option_map}
 use Rattle.std.proofs.lemmas.Bool.{eq-eqb, eqb-true, eqb-false, lt-ltb}
 use Rattle.std.proofs.lemmas.Grind.{fold-append}
 use Rattle.std.proofs.lemmas.Option.{slice_get_within}
 use Rattle.std.proofs.Math.Seq.{drop-append_seam}
+pub use Rattle.std.proofs.lemmas.Bool.{and_from as and_true}
 use Rattle.fab_base.specs.declared.frames.Frame.{Frame}
 use Rattle.fab_base.specs.declared.items.Item.{Item}
 use Rattle.fab_base.specs.declared.items.ItemHead.{ItemHead}
 use Rattle.fab_base.specs.declared.peers.Step.{Step}
 use Rattle.fab_base.specs.declared.peers.Step.TheVariants.{Do, Head, Tail, Draw, Read as ReadStep, Sent as SentStep}
-use Rattle.fab_wire.specs.Joined.{is_last, grown, with_frame, Gathered, AreFirst, IsBegun}
+pub use Rattle.fab_base.proofs.Lists.{drop_get as get_drop}
+use Rattle.fab_link.specs.Joined.{is_last, grown, with_frame, Gathered, AreFirst, IsBegun}
 use Rattle.fab_model.specs.State.{State, fits, accepted_for, raise}
 use Rattle.fab_model.specs.Receiving.{draw_due}
 use Rattle.fab_model.specs.Sending.{do_sent}
@@ -147,13 +149,7 @@ joins_by (act ∷ acts) p q (mid, one, rest) = joins_then p.held mid.held q.held
 
 -- ---- what is shown
 
-pub get_drop : {X : Type 0} (xs : List X) (k : ℕ) (x : X) (ys : List X) → drop k xs ≡ x ∷ ys → slice_get xs k ≡ Some x
-get_drop [] zero x ys e = absurd (cc)
-get_drop [] (suc k) x ys e = absurd (cc)
-get_drop (y ∷ xs) zero x ys e = let same : y ≡ x = cc in ap Some same
-get_drop (y ∷ xs) (suc k) x ys e = get_drop xs k x ys e
-
-drop_nil : {X : Type 0} (n : ℕ) → drop {A = X} n [] ≡ []
+pub drop_nil : {X : Type 0} (n : ℕ) → drop {A = X} n [] ≡ []
 drop_nil zero = refl
 drop_nil (suc n) = refl
 
@@ -268,9 +264,6 @@ begun_item v (act ∷ acts) p q source g (mid, one, rest) shows begun = by_act (
         by_peer false e = through more (Took s f) lives shown (rw e refl)
 
 -- ---- steps
-
-pub and_true : (a b : Bool) → a ≡ true → b ≡ true → (a && b) ≡ true
-and_true a b x y = rw (x, y) refl
 
 -- the peer after a move
 actor_is : (p q : Living) (s : State) → q ≡ record p { held = q.held } → q.held.state ≡ s → with_state (actor_in p) s ≡ actor_in q

@@ -1,5 +1,6 @@
 -- How the parts of a turn join.
-use Rattle.std.proofs.Common.{◌≡◌, Bool, true, false, not, ◌||◌, List, [], ◌++◌, length, None, refl, sym, ap, ◌∙◌, subst}
+use Rattle.std.proofs.Common.{◌≡◌, Bool, true, false, ◌||◌, List, [], ◌++◌, length, None, refl, sym, ap, ◌∙◌, subst}
+use Rattle.fab_base.proofs.Bools.{or_true, or_false_left as or_first, or_false_right as or_second, or_assoc as or_or}
 use Rattle.fab_model.specs.Peers.{do_next}
 use Rattle.fab_face.specs.Held.{Held, IsOpen}
 use Rattle.fab_peer.proofs.Sending.{transmits_by, lives_ready}
@@ -10,22 +11,6 @@ use Rattle.fab_peer.proofs.Paths.{lived_then, lived_none, some_append, none_acts
 use Rattle.fab_peer.proofs.Calling.{lived_same}
 use Rattle.fab_peer.proofs.Idling.{idle_then}
 use Rattle.fab_peer.proofs.Showing.{joins_by, walk_shown}
-
-pub or_first : (a b : Bool) → (a || b) ≡ false → a ≡ false
-or_first true b e = absurd (cc)
-or_first false b e = refl
-
-pub or_second : (a b : Bool) → (a || b) ≡ false → b ≡ false
-or_second true b e = absurd (cc)
-or_second false b e = e
-
-pub or_true : (b : Bool) → (b || true) ≡ true
-or_true true = refl
-or_true false = refl
-
-or_or : (a b c : Bool) → ((a || b) || c) ≡ (a || (b || c))
-or_or true b c = refl
-or_or false b c = refl
 
 module _ {Home : Type 0} where
   -- a line that was not done ends the lines
@@ -141,11 +126,3 @@ module _ {Home : Type 0} where
     },
     g.moved_is,
   )
-
-pub not_true : (b : Bool) → not b ≡ true → b ≡ false
-not_true true e = absurd (cc)
-not_true false e = refl
-
-pub not_false : (b : Bool) → not b ≡ false → b ≡ true
-not_false true e = refl
-not_false false e = absurd (cc)

@@ -3,8 +3,8 @@
 use Rattle.std.specs.Prelude.{◌≡◌, ◌<◌, ℕ, List, length, Some, None, slice_get, slice_index}
 use Rattle.fab_base.specs.declared.frames.Frame.{Frame}
 use Rattle.fab_base.specs.declared.items.Item.{Item}
-use Rattle.fab_wire.specs.Frames.{IsLane}
-use Rattle.fab_wire.specs.Joined.{joined}
+use Rattle.fab_link.specs.Frames.{IsLane}
+use Rattle.fab_link.specs.Joined.{joined}
 use Rattle.fab_model.specs.State.{accepted_for}
 use Rattle.fab_face.specs.Held.{Held, begun_of}
 use Rattle.fab_peer.specs.Turns.{posted_part}

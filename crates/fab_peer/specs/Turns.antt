@@ -24,7 +24,7 @@ use Rattle.fab_base.specs.declared.peers.LineResult.TheVariants.{Done, Refused, 
 use Rattle.fab_base.specs.declared.peers.Step.{Step}
 use Rattle.fab_base.specs.declared.peers.Step.TheVariants.{Do, Head, Tail, Draw, Read, Final, Sent as SentStep}
 use Rattle.fab_base.specs.declared.script.Line.{Line}
-use Rattle.fab_wire.specs.Joined.{with_frame, Gathered, AreFirst}
+use Rattle.fab_link.specs.Joined.{with_frame, Gathered, AreFirst}
 use Rattle.fab_model.specs.Peers.{Actor, fabric, facts, do_next, read_next, is_again, unread, bytes_kept, is_release, is_multi_line}
 use Rattle.fab_model.specs.State.{State, accepted_for}
 use Rattle.fab_model.specs.Receiving.{draw_due}
@@ -36,7 +36,7 @@ use Rattle.fab_face.specs.Held.{Held, Seen, begun_of, next_item}
 use Rattle.fab_face.specs.Acts.{Act, Did, Took, Posted, Drew, Had, Goes, Ported, steps_of, taken_of, posted_to}
 use Rattle.fab_face.specs.Answers.{IsIdle, AllAre, Lends, LendsNone, after_read}
 use Rattle.fab_link.specs.Meaning.{end_of}
-use Rattle.fab_wire.specs.Frames.{IsLane}
+use Rattle.fab_link.specs.Frames.{IsLane}
 
 pub record Told (Home : Type 0) : Type 0 where
   pub seen : Seen Home

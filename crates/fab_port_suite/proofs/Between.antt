@@ -1,24 +1,20 @@
 -- What was posted goes on to end with a whole item.
-use Rattle.std.proofs.Common.{◌≡◌, ◌≢◌, ℕ, [], ◌∷◌, ◌++◌, sym, ap, ◌∙◌, subst, None, Ok, Err}
+use Rattle.std.proofs.Common.{◌≡◌, ◌≢◌, ℕ, [], ◌∷◌, ◌++◌, sym, ap, ◌∙◌, subst, None}
 use mathlib.Core.Logic.{dite}
 use native.Mathlib.Decide.{ℕ_discrete}
 use Rattle.std.specs.Prelude.{Result, OnOk, OnErr}
 use Rattle.fab_base.specs.declared.frames.Frame.{Frame}
-use Rattle.fab_wire.specs.Cut.{IsBetweenItems}
-use Rattle.fab_wire.specs.Frames.{IsLast, last_head}
-use Rattle.fab_wire.proofs.Lanes.{last_head-push}
+use Rattle.fab_link.specs.Cut.{IsBetweenItems}
+use Rattle.fab_link.specs.Frames.{IsLast, last_head}
 use Rattle.fab_link.specs.declared.port.PostRefused.{PostRefused}
 use Rattle.fab_link.specs.declared.port.Port.{Ghosts}
 use Rattle.fab_link.specs.Meaning.{Outgoing, end_of}
+use Rattle.fab_link.proofs.Between.{between_by}
 use Rattle.fab_port_suite.specs.Lanes.{AreBetween, IsSame}
 
 -- a lane to which nothing was posted
 pub fresh_between : (o : Outgoing) → o.frames ≡ [] → o.after ≡ None → IsBetweenItems (end_of o)
 fresh_between o none after = subst IsBetweenItems (λ i. last_head (sym after i) (sym none i)) tt
-
-between_by : (o o' : Outgoing) (f : Frame) (r : Result (Unit {0}) PostRefused) → OnOk r (o'.frames ≡ o.frames ++ f ∷ []) → OnErr r (o'.frames ≡ o.frames) → o'.after ≡ o.after → IsBetweenItems (end_of o) → IsLast f.head → IsBetweenItems (end_of o')
-between_by o o' f (Ok u) ok err after was last = subst IsBetweenItems (sym (ap (last_head o'.after) ok ∙ last_head-push o'.after o.frames f)) last
-between_by o o' f (Err e) ok err after was last = subst IsBetweenItems (λ i. last_head (sym after i) (sym err i)) was
 
 -- once the last frame of an item was posted, or refused
 pub between_after : (old new : ℕ → Outgoing) (dest : ℕ) (f : Frame) (r : Result (Unit {0}) PostRefused) → OnOk r ((new dest).frames ≡ (old dest).frames ++ f ∷ []) → OnErr r ((new dest).frames ≡ (old dest).frames) → (new dest).after ≡ (old dest).after

@@ -7,8 +7,8 @@ use Rattle.fab_base.specs.declared.items.Ack.TheVariants.{Nothing, Delivery, Mat
 use Rattle.fab_base.specs.declared.items.Kind.{Kind}
 use Rattle.fab_base.specs.declared.items.Kind.TheVariants.{Msg, WriteReq, Reply}
 use Rattle.fab_base.specs.declared.items.Outcome.TheVariants.{Done}
-use Rattle.fab_wire.specs.Frames.{frame}
-use Rattle.fab_wire.specs.Owing.{replies, owing}
+use Rattle.fab_link.specs.Frames.{frame}
+use Rattle.fab_link.specs.Owing.{replies, owing}
 use Rattle.fab_link.specs.Meaning.{Outgoing, Incoming, Repays}
 
 -- the head of an item of 5,000 bytes, with operation 7

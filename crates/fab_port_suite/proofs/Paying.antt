@@ -4,8 +4,8 @@ use Rattle.std.specs.Prelude.{◌==◌}
 use Rattle.std.proofs.lemmas.Bool.Decides.{nat_tests}
 use Rattle.fab_base.specs.declared.frames.Frame.{Frame}
 use Rattle.fab_base.specs.declared.frames.FrameHead.{FrameHead}
-use Rattle.fab_wire.specs.Owing.{ends_owing, owing, IsOwed}
-use Rattle.fab_wire.proofs.Owed.{owing-append}
+use Rattle.fab_link.specs.Owing.{ends_owing, owing, IsOwed}
+use Rattle.fab_link.proofs.Owed.{owing-append}
 use Rattle.fab_link.specs.Meaning.{Outgoing, Incoming, Owes, advanced}
 use Rattle.fab_port_suite.specs.Answering.{HasLent}
 

@@ -5,7 +5,7 @@
 --     AreReady M n ps    each of these is one
 --     IsSame M old new   the port is that of the same peer, and what no call changes is as it was
 use Rattle.std.specs.Prelude.{◌≡◌, ℕ, List, Some, slice_get}
-use Rattle.fab_wire.specs.Cut.{IsBetweenItems}
+use Rattle.fab_link.specs.Cut.{IsBetweenItems}
 use Rattle.fab_link.specs.Meaning.{Outgoing, end_of}
 use Rattle.fab_link.specs.declared.port.Port.{Ghosts}
 

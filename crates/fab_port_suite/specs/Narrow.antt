@@ -2,13 +2,13 @@
 --     greeting_head  the head of the one frame that it gives
 --     out_of p d     the lane to peer d: the port's own, where d is the one peer
 --     in_of p s      what came from peer s: from the one peer that frame
-use Rattle.std.specs.Prelude.{ℕ, zero, suc, List, [], ◌∷◌, map, Option, None, Some}
+use Rattle.std.specs.Prelude.{◌≡◌, ℕ, zero, suc, List, [], ◌∷◌, map, Option, None, Some}
 use Rattle.fab_base.specs.declared.frames.Frame.{Frame}
 use Rattle.fab_base.specs.declared.frames.FrameHead.{FrameHead}
 use Rattle.fab_base.specs.declared.items.Kind.TheVariants.{Msg}
 use Rattle.fab_base.specs.declared.items.Ack.TheVariants.{Nothing}
 use Rattle.fab_base.specs.declared.items.Outcome.TheVariants.{Done}
-use Rattle.fab_wire.specs.Frames.{frame}
+use Rattle.fab_link.specs.Frames.{frame}
 use Rattle.fab_link.specs.Meaning.{Outgoing, Incoming}
 use Rattle.fab_port_suite.specs.declared.narrow.NarrowPort.{NarrowPort}
 use Rattle.fab_port_suite.specs.declared.narrow.Greeting.{Greeting}
@@ -53,3 +53,6 @@ in_of p (suc s) = record { after = None; taken = []; lent = None; empty_seen = 0
 -- no in lists are told
 pub nothing_first : NarrowPort → ℕ → Unit {0}
 nothing_first p s = tt
+
+pub nothing_behind : (p q : NarrowPort) (s : ℕ) → p.greeting ≡ Taken → Unit {0}
+nothing_behind p q s taken = tt

@@ -1,7 +1,7 @@
 //! A caller that answers what it takes.
 ghost use Rattle.std.specs.Prelude.{◌≡◌, ◌<◌, ℕ, IfSome};
-ghost use Rattle.fab_wire.specs.Frames.{Continues};
-ghost use Rattle.fab_wire.specs.Owing.{ends_owing};
+ghost use Rattle.fab_link.specs.Frames.{Continues};
+ghost use Rattle.fab_link.specs.Owing.{ends_owing};
 ghost use Rattle.fab_link.specs.Meaning.{Owes, end_of};
 ghost use Rattle.fab_port_suite.specs.Answering.{HasLent, reply_head};
 

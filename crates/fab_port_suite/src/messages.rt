@@ -1,7 +1,7 @@
 //! Messages of one frame, and bytes for them.
 ghost use Rattle.std.specs.Prelude.{◌≡◌, ◌≤◌, length, false};
-ghost use Rattle.fab_wire.specs.Frames.{IsSound};
-ghost use Rattle.fab_wire.specs.Owing.{begins_reply};
+ghost use Rattle.fab_link.specs.Frames.{IsSound};
+ghost use Rattle.fab_link.specs.Owing.{begins_reply};
 
 use fab_base::{Ack, FrameHead, ItemHead, Kind, NoMemory, Outcome};
 use std::alloc::Global;

@@ -2,7 +2,8 @@
 ghost use Rattle.std.specs.Prelude.{◌≡◌, ℕ, ◌<◌, true, None, Some, IfOk, IfSome, length, []};
 ghost use Rattle.std.specs.Vec.{vec_capacity};
 ghost use Rattle.fab_link.specs.Meaning.{AreFresh};
-ghost use Rattle.fab_port_suite.specs.Narrow.{out_of, in_of, nothing_first, greeting_head};
+ghost use Rattle.fab_port_suite.specs.declared.narrow.Greeting.TheVariants.{Taken};
+ghost use Rattle.fab_port_suite.specs.Narrow.{out_of, in_of, nothing_first, nothing_behind, greeting_head};
 
 use fab_base::{Ack, FrameHead, FrameRef, ItemHead, Kind, NoMemory, Outcome};
 use fab_link::{Port, PostRefused};
@@ -96,7 +97,12 @@ impl Port for NarrowPort {
 
     ghost in_list = { λ _ _. None };
 
+    // The one frame that it gives was taken.
+    ghost SawNone = { λ p _ _. p.greeting ≡ Taken };
+
     ghost taken_first = { nothing_first };
+
+    ghost none_behind = { nothing_behind };
 
     fn me(&self) -> u32 {
         0

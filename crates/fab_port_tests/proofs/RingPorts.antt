@@ -2,7 +2,7 @@
 use Rattle.std.proofs.Common.{◌≡◌, ℕ, List, [], ◌∷◌, ◌++◌, length, sym, refl, ap, ◌∙◌, subst, Some}
 use Rattle.std.specs.Prelude.{slice_get}
 use Rattle.fab_link.specs.Plain.{Plain}
-use Rattle.fab_table.specs.declared.fabric.Fabric.{Fabric}
+use Rattle.fab_table.specs.declared.lane_table.LaneTable.{LaneTable}
 use Rattle.fab_ring.specs.declared.port.RingPort.{RingPort}
 use Rattle.fab_ring.specs.Ports.{number_of, peers_of, table_of, out_of}
 use Rattle.fab_ring.specs.Made.{AreMade}
@@ -12,10 +12,10 @@ use Rattle.fab_port_suite.proofs.Between.{fresh_between}
 use Rattle.fab_port_suite.proofs.Lists.{last_two, of_pair}
 use Rattle.fab_port_tests.specs.Pairs.{IsFresh, AreBoth}
 
-pub ring_ready : (n peers room pool : ℕ) (f : Fabric) (ports : List RingPort) → peers ≡ n → AreMade peers room pool f ports → (k : ℕ) (p : RingPort) → slice_get ports k ≡ Some p → (peers_of p ≡ n) × AreBetween (out_of p)
+pub ring_ready : (n peers room pool : ℕ) (f : LaneTable) (ports : List RingPort) → peers ≡ n → AreMade peers room pool f ports → (k : ℕ) (p : RingPort) → slice_get ports k ≡ Some p → (peers_of p ≡ n) × AreBetween (out_of p)
 ring_ready n peers room pool f ports is m k p at = ((m.sizes k p at).0 ∙ is, λ d. fresh_between (out_of p d) ((m.fresh k p at).1 d).frames refl)
 
-pub ring_made : (peers room pool : ℕ) (f : Fabric) (ports rest left : List RingPort) (a b : RingPort) → peers ≡ 2 → AreMade peers room pool f ports → ports ≡ rest ++ b ∷ [] → rest ≡ left ++ a ∷ []
+pub ring_made : (peers room pool : ℕ) (f : LaneTable) (ports rest left : List RingPort) (a b : RingPort) → peers ≡ 2 → AreMade peers room pool f ports → ports ≡ rest ++ b ∷ [] → rest ≡ left ++ a ∷ []
     → IsEnd 0 (number_of a) (peers_of a) (out_of a) × IsEnd 1 (number_of b) (peers_of b) (out_of b) × (table_of b ≡ table_of a) × (IsFresh a × IsFresh b)
 ring_made peers room pool f ports rest left a b two m is is' = let at = last_two ports rest left a b (m.count ∙ two) is is' in
     let ready = ring_ready 2 peers room pool f ports two m in let za = ready 0 a at.0 in let zb = ready 1 b at.1 in

@@ -1,6 +1,6 @@
 //! Plain ports: frames that are carried, brought, taken out and answered.
 ghost use Rattle.std.specs.Prelude.{◌≡◌, ◌<◌, None, length, replicate, IfSome};
-ghost use Rattle.fab_wire.specs.Frames.{IsSound, MayCome};
+ghost use Rattle.fab_link.specs.Frames.{IsSound, MayCome};
 ghost use Rattle.fab_link.specs.Carry.{AreAll};
 ghost use Rattle.fab_link.specs.Plain.{fresh_lane};
 

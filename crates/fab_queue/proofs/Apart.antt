@@ -5,12 +5,12 @@ use native.Mathlib.Decide.{ℕ_discrete}
 use Rattle.std.specs.Prelude.{Some, slice_get, Vec}
 use Rattle.std.specs.declared.alloc.Global.{Global}
 use Rattle.std.proofs.lemmas.Option.{same_Some, slice_get_within}
+use Rattle.fab_base.proofs.Lists.{get_seam as at_seam}
 use Rattle.fab_queue.specs.Ends.{Out, In}
 use Rattle.fab_queue.specs.Ports.{Queued}
 use Rattle.fab_queue.specs.Laid.{row, column}
 use Rattle.fab_queue.specs.Gather.{AreApart}
 use Rattle.fab_queue.proofs.Members.{members_set_same, members_set_other}
-use Rattle.fab_queue.proofs.Receiving.{at_seam}
 
 pub apart_starts : (ports : List Queued) (outs : List (Vec Out Global)) (ins : List (Vec In Global)) → length outs ≡ length ports → length ins ≡ length ports → AreApart ports outs ins (length ports)
 apart_starts ports outs ins co ci = record {

@@ -9,15 +9,15 @@ use Rattle.std.proofs.lemmas.Option.{none-some, same_Some}
 use Rattle.fab_base.specs.declared.frames.Frame.{Frame}
 use Rattle.fab_base.specs.declared.frames.FrameRef.{FrameRef}
 use Rattle.fab_base.specs.Counts.{Rose}
-use Rattle.fab_wire.specs.declared.moves.Move.{Move}
-use Rattle.fab_wire.specs.declared.moves.Move.TheVariants.{Take}
-use Rattle.fab_wire.specs.Frames.{lent_frame, MayCome}
+use Rattle.fab_link.specs.declared.moves.Move.{Move}
+use Rattle.fab_link.specs.declared.moves.Move.TheVariants.{Take}
+use Rattle.fab_link.specs.Frames.{lent_frame, MayCome}
 use Rattle.fab_link.specs.Meaning.{Incoming, Fronted, Gives, GrewBy, taken_end, advanced}
 use Rattle.fab_link.specs.Plain.{lent_frames}
 use Rattle.fab_queue.specs.declared.lane.Sent.{Sent}
 use Rattle.fab_queue.specs.Lanes.{frame_of, frames_of}
 use Rattle.fab_queue.specs.Ends.{In, new_in, frame_in, taken_one, Looked, LookedAt}
-use Rattle.fab_queue.specs.Ports.{Queued, no_lane, in_at, out_of, in_of, incoming, with_in, moves_of, lanes_of}
+use Rattle.fab_queue.specs.Ports.{Queued, no_lane, in_at, out_of, in_of, incoming, with_in, moves_of, lanes_of, PopFoundNone}
 
 -- what `front` says of one lane
 pub record Looks (old new : In) (r : Option FrameRef) : Type 0 where
@@ -101,6 +101,14 @@ pub record Fronts (p q : Queued) (s : ℕ) (r : Option FrameRef) : Type 0 where
   pub peers : length q.outs ≡ length p.outs
   pub home : lanes_of q ≡ lanes_of p
   pub moves : moves_of q ≡ moves_of p
+  pub saw : IfNone r (PopFoundNone p q s)
+
+-- no answer comes only of a pop that found none
+saw_by : (o : Option Sent) (p q : Queued) (s : ℕ) (r : Option FrameRef) → (in_at p s).lent ≡ o → LookedAt o (in_at p s) (in_at q s) → lent_frames r ≡ frame_in (in_at q s).lent → IfNone r (PopFoundNone p q s)
+saw_by o p q s (Some f) was looked lent = tt
+saw_by (Some x) p q s None was looked lent = absurd (none-some x.frame (lent ∙ ap (λ (i : In). frame_in i.lent) looked ∙ ap frame_in was))
+saw_by None p q s None was (inl came) lent = absurd (none-some came.0.frame (lent ∙ ap (λ (i : In). frame_in i.lent) came.2))
+saw_by None p q s None was (inr none) lent = (was, none)
 
 looked_lane : (o : Option Sent) (old new : In) → LookedAt o old new → new.lane ≡ old.lane
 looked_lane (Some x) old new looked = ap (λ (i : In). i.lane) looked
@@ -117,6 +125,7 @@ fronts p q s r near looked rest lent next = record {
   peers = ap (λ (z : Queued). length z.outs) rest;
   home = ap lanes_of rest ∙ (λ i. record { to = (lanes_of p).to; from = in_kept (λ (z : In). z.lane) p s (in_at q s) p.moves near (looked_lane (in_at p s).lent (in_at p s) (in_at q s) looked) i });
   moves = ap moves_of rest;
+  saw = saw_by (in_at p s).lent p q s r refl looked lent;
 }
 
 -- what `advance` says of a port

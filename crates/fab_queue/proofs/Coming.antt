@@ -10,9 +10,10 @@ use Rattle.std.proofs.Math.ListN.{get_or-eq_default}
 use Rattle.std.proofs.lemmas.Option.{none-some, same_Some, slice_get_within}
 use Rattle.fab_base.specs.declared.frames.FrameHead.{FrameHead}
 use Rattle.fab_base.specs.declared.frames.Frame.{Frame}
-use Rattle.fab_wire.specs.declared.moves.Move.{Move}
-use Rattle.fab_wire.specs.Merged.{IsStamped, posts_to, takes_of, merges}
-use Rattle.fab_wire.proofs.Merging.{stamped_merge}
+use Rattle.fab_base.proofs.Lists.{get_some as there_is}
+use Rattle.fab_link.specs.declared.moves.Move.{Move}
+use Rattle.fab_link.specs.Merged.{IsStamped, posts_to, takes_of, merges}
+use Rattle.fab_link.proofs.Merging.{stamped_merge}
 use Rattle.fab_link.specs.Meaning.{AreFresh}
 use Rattle.fab_link.specs.Plain as plain
 use Rattle.fab_link.specs.Plain.{Plain, lane_at, fresh_lane}
@@ -21,11 +22,6 @@ use Rattle.fab_queue.specs.Ends.{Out, In, new_in}
 use Rattle.fab_queue.specs.Ports.{Queued, no_lane, out_at, in_at, number, moves_of, IsSound}
 use Rattle.fab_queue.specs.Laid.{row, column, out_in, in_in}
 use Rattle.fab_queue.specs.Gather.{AreAll, GoesOn, Gathered, taken_end_of, Succeeds, AreSuccessors, AreAllRooms, AreApart, Drained, ReceivesAll, ReceivedAll}
-
-pub there_is : {X : Type 0} (xs : List X) (k : ℕ) → k < length xs → (x : X) × (slice_get xs k ≡ Some x)
-there_is [] k near = absurd (omega arith)
-there_is (x ∷ xs) zero near = (x, refl)
-there_is (x ∷ xs) (suc k) near = there_is xs k (omega arith)
 
 moves_at : (ports : List Queued) (k : ℕ) (p : Queued) → slice_get ports k ≡ Some p → get_or (map moves_of ports) k [] ≡ moves_of p
 moves_at [] k p e = absurd (none-some p e)

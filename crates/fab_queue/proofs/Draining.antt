@@ -2,9 +2,10 @@
 use Rattle.std.proofs.Common.{◌≡◌, ℕ, ◌+◌, ◌-◌, ◌<◌, ◌≤◌, true, List, [], ◌∷◌, ◌++◌, length, sym, refl, ap, ◌∙◌, subst, arith, append_assoc, append-nil, length-append}
 use mathlib.Core.List.{map-append}
 use Rattle.std.specs.Prelude.{Option, None, option_to_list}
+use Rattle.std.proofs.lemmas.List.{length_push as length_more}
 use Rattle.fab_base.specs.declared.frames.FrameHead.{FrameHead}
 use Rattle.fab_base.specs.declared.frames.Frame.{Frame}
-use Rattle.fab_wire.specs.Frames.{IsLane}
+use Rattle.fab_link.specs.Frames.{IsLane}
 use Rattle.fab_queue.specs.declared.lane.Sent.{Sent}
 use Rattle.fab_queue.specs.declared.lane.Log.{Log}
 use Rattle.fab_queue.specs.Lanes.{frame_of, frames_of, log, GotOne, Holds}
@@ -38,9 +39,6 @@ emptying_starts v w before n room capacity p g is few held fits = let tells = he
   frames_are = sym (append-nil before);
   room = (let e = held.1 in omega arith);
 }
-
-length_more : {X : Type 0} (xs : List X) (x : X) → length (xs ++ x ∷ []) ≡ length xs + 1
-length_more xs x = length-append xs (x ∷ [])
 
 -- of two ways to cut one list the one has the one member more
 one_less : (put got : List Sent) (x : Sent) (left rest : List Sent) → put ≡ got ++ left → (got ++ x ∷ []) ++ rest ≡ put → length left ≡ length rest + 1

@@ -4,8 +4,8 @@ use mathlib.Core.List.{map-append}
 use Rattle.std.specs.Prelude.{Option, Some, None, option_to_list}
 use Rattle.std.proofs.lemmas.Option.{none-some}
 use Rattle.fab_base.specs.declared.frames.FrameHead.{FrameHead}
-use Rattle.fab_wire.specs.Frames.{last_head}
-use Rattle.fab_wire.proofs.Lanes.{last_head-push}
+use Rattle.fab_link.specs.Frames.{last_head}
+use Rattle.fab_link.proofs.Lanes.{last_head-push}
 use Rattle.fab_queue.specs.declared.lane.Sent.{Sent}
 use Rattle.fab_queue.specs.declared.lane.Log.{Log}
 use Rattle.fab_queue.specs.Lanes.{frame_of, frames_of, put_one}

@@ -1,17 +1,14 @@
 -- The lanes between all peers, as they are made one by one.
-use Rattle.std.proofs.Common.{◌≡◌, ℕ, ◌+◌, ◌<◌, List, [], ◌∷◌, ◌++◌, length, set, sym, ap, ◌∙◌, subst, arith, length-set, length-append}
+use Rattle.std.proofs.Common.{◌≡◌, ℕ, ◌+◌, ◌<◌, List, [], ◌∷◌, ◌++◌, length, set, sym, ap, ◌∙◌, subst, arith, length-set}
 use mathlib.Core.Logic.{dite}
 use native.Mathlib.Decide.{ℕ_discrete}
 use Rattle.std.specs.Prelude.{Vec}
 use Rattle.std.specs.declared.alloc.Global.{Global}
-use Rattle.std.proofs.lemmas.List.{get_or_push, get_or_append_left}
+use Rattle.std.proofs.lemmas.List.{get_or_push, get_or_append_left, length_push as length_more}
 use Rattle.fab_queue.specs.Ends.{Out, In, new_out, new_in}
 use Rattle.fab_queue.specs.Ports.{no_lane}
 use Rattle.fab_queue.specs.Laid.{row, column, out_in, in_in, IsLaid, AreLaidFrom, AreLaid}
 use Rattle.fab_queue.proofs.Members.{members_set_same, members_set_other, members_before, members_last}
-
-length_more : {X : Type 0} (xs : List X) (x : X) → length (xs ++ x ∷ []) ≡ length xs + 1
-length_more xs x = length-append xs (x ∷ [])
 
 -- one lane more
 pub laid_more : (room n : ℕ) (old new : List (Vec In Global)) (outs : List Out) (o : Out) (i : In) (v : Vec In Global) → AreLaidFrom room old new outs n → n < length new → IsLaid room o i → v.items ≡ column new n ++ i ∷ []

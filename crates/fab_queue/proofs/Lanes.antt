@@ -3,21 +3,14 @@ use Rattle.std.proofs.Common.{◌≡◌, ◌≢◌, ℕ, zero, suc, true, false,
 use mathlib.Core.Option.{some, some-ne-none}
 use mathlib.Core.List.{map-append}
 use lib.ListN.{get_elem?}
-use Rattle.std.specs.Prelude.{Option, Some, None}
+use Rattle.std.specs.Prelude.{None}
 use Rattle.crossbeam_queue.specs.Fifo.{Pushes, Pops, Forks, Merges, Learns}
 use Rattle.crossbeam_queue.proofs.Lists.{at_set, at_snoc}
-use Rattle.fab_base.specs.declared.frames.FrameHead.{FrameHead}
-use Rattle.fab_base.specs.declared.frames.Frame.{Frame}
-use Rattle.fab_wire.specs.Frames.{last_head, IsLane}
-use Rattle.fab_wire.proofs.Lanes.{IsLane-push}
+use Rattle.fab_link.specs.Frames.{last_head, IsLane}
+use Rattle.fab_link.proofs.Lanes.{IsLane-push, lane_rest}
 use Rattle.fab_queue.specs.declared.lane.Sent.{Sent}
 use Rattle.fab_queue.specs.declared.lane.Log.{Log}
 use Rattle.fab_queue.specs.Lanes.{frame_of, frames_of, log, Continues, Fits, Ordered, put_one, GotOne, EndsWith, Holds}
-
--- the frames behind others are a lane that goes on behind these
-pub lane_rest : (before : Option FrameHead) (xs ys : List Frame) → IsLane before (xs ++ ys) → IsLane (last_head before xs) ys
-lane_rest before [] ys k = k
-lane_rest before (x ∷ xs) ys k = lane_rest (Some x.head) xs ys k.1
 
 pub rest_of : (got items : List Sent) → IsLane None (frames_of (got ++ items)) → IsLane (last_head None (frames_of got)) (frames_of items)
 rest_of got items k = lane_rest None (frames_of got) (frames_of items) (subst (IsLane None) (map-append frame_of got items) k)

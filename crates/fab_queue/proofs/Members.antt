@@ -1,6 +1,5 @@
 -- The members of lists of lists.
-use Rattle.std.proofs.Common.{◌≡◌, ◌≢◌, ℕ, zero, suc, ◌+◌, ◌<◌, List, [], ◌∷◌, ◌++◌, length, take, drop, set, get_or, refl, ap, ◌∙◌, arith, length-append, append-nil}
-use Rattle.std.proofs.lemmas.List.{take_all, drop_all}
+use Rattle.std.proofs.Common.{◌≡◌, ◌≢◌, ℕ, zero, suc, ◌+◌, ◌<◌, List, [], ◌∷◌, ◌++◌, length, set, get_or, refl, ap, ◌∙◌, arith, length-append}
 use Rattle.std.specs.Prelude.{Vec}
 use Rattle.std.specs.declared.alloc.Global.{Global}
 use Rattle.fab_queue.specs.Laid.{members}
@@ -49,7 +48,3 @@ module _ {X : Type 0} where
   pub members_seam : (vs : List (Vec X Global)) (v : Vec X Global) (ws : List (Vec X Global)) → members (vs ++ v ∷ ws) (length vs) ≡ v.items
   members_seam [] v ws = refl
   members_seam (x ∷ xs) v ws = members_seam xs v ws
-
--- a slice of a list, written back
-pub written_back : {X : Type 0} (old new : List X) (n : ℕ) → length new ≡ length old → n ≡ length old → take n (new ++ drop (length new) old) ≡ new
-written_back {X = X} old new n same e = ap (λ (z : List X). take n (new ++ z)) (drop_all (length new) old (omega (arith, same))) ∙ ap (take n) (append-nil new) ∙ take_all n new (omega (arith, same, e))

@@ -1,14 +1,15 @@
 -- The lanes to one peer are emptied one by one.
-use Rattle.std.proofs.Common.{◌≡◌, ◌≢◌, ℕ, zero, suc, ◌+◌, ◌<◌, ◌≤◌, List, [], ◌∷◌, ◌++◌, length, set, get_or, sym, refl, ap, ◌∙◌, subst, arith, length-set, length-append, append_assoc, append-nil, get_or-set_same, get_or-set_other}
+use Rattle.std.proofs.Common.{◌≡◌, ◌≢◌, ℕ, ◌+◌, ◌<◌, ◌≤◌, List, [], ◌∷◌, ◌++◌, length, set, get_or, sym, refl, ap, ◌∙◌, subst, arith, length-set, length-append, append_assoc, append-nil, get_or-set_same, get_or-set_other}
 use mathlib.Core.Logic.{dite}
 use native.Mathlib.Decide.{ℕ_discrete}
 use Rattle.std.specs.Prelude.{Some, None, slice_get, Vec, vec_capacity}
 use Rattle.std.specs.declared.alloc.Global.{Global}
 use Rattle.std.proofs.lemmas.List.{set-get_or, get_or_default}
-use Rattle.std.proofs.lemmas.Option.{none-some, same_Some, slice_get_within}
+use Rattle.std.proofs.lemmas.Option.{same_Some, slice_get_within}
 use Rattle.std.proofs.Math.Seq.{get_or-append_seam}
 use Rattle.fab_base.specs.declared.frames.Frame.{Frame}
-use Rattle.fab_wire.specs.Frames.{IsLane}
+use Rattle.fab_base.proofs.Lists.{get_set_same, get_set_other, get_seam as at_seam}
+use Rattle.fab_link.specs.Frames.{IsLane}
 use Rattle.fab_link.specs.Plain as plain
 use Rattle.fab_link.specs.Plain.{Plain, lane_at, with_lane, fresh_lane}
 use Rattle.fab_queue.specs.Ends.{Out, In, new_out, new_in}
@@ -49,10 +50,6 @@ receiving_starts outs ins rooms port port' is r = subst (Receiving outs outs ins
 
 pub received : (outs0 outs : List (Vec Out Global)) (ins0 ins : List In) (rooms0 rooms : List (Vec Frame Global)) (port0 port : Plain) → Receiving outs0 outs ins0 ins rooms0 rooms port0 port → length ins ≡ 0 → Received outs0 ins0 port0 port
 received outs0 outs ins0 ins rooms0 rooms port0 port k none = record { number = k.number; count = k.count; same = k.same; each = λ s near. k.each s (omega (arith, none)) near }
-
-pub at_seam : {X : Type 0} (xs : List X) (x : X) (ys : List X) → slice_get (xs ++ x ∷ ys) (length xs) ≡ Some x
-at_seam [] x ys = refl
-at_seam (z ∷ zs) x ys = at_seam zs x ys
 
 module _ (outs0 outs : List (Vec Out Global)) (ins0 ins ins' : List In) (rooms0 rooms rooms' : List (Vec Frame Global)) (port0 port : Plain) (i : In) (w : Vec Frame Global)
     (r : Receives outs0 ins0 rooms0 port0) (k : Receiving outs0 outs ins0 ins rooms0 rooms port0 port) (e : ins ≡ ins' ++ i ∷ []) (f : rooms ≡ rooms' ++ w ∷ []) where
@@ -177,18 +174,6 @@ received_same outs outs' ins old new rows r = record {
   same = r.same;
   each = λ s near. subst (λ (l : List Out). Drained (out_in l old.number) (in_in ins s) (lane_at new s).in_list) (rows s) (r.each s near);
 }
-
-get_set_other : {X : Type 0} (xs : List X) (i j : ℕ) (x : X) → j ≢ i → slice_get (set xs i x) j ≡ slice_get xs j
-get_set_other [] i j x ne = refl
-get_set_other (z ∷ zs) zero zero x ne = absurd (ne refl)
-get_set_other (z ∷ zs) zero (suc j) x ne = refl
-get_set_other (z ∷ zs) (suc i) zero x ne = refl
-get_set_other (z ∷ zs) (suc i) (suc j) x ne = get_set_other zs i j x (λ e. ne (ap suc e))
-
-get_set_same : {X : Type 0} (xs : List X) (i : ℕ) (x y : X) → slice_get (set xs i x) i ≡ Some y → x ≡ y
-get_set_same [] i x y e = absurd (none-some y e)
-get_set_same (z ∷ zs) zero x y e = same_Some x y e
-get_set_same (z ∷ zs) (suc i) x y e = get_set_same zs i x y e
 
 -- the lanes to the last peers are empty
 pub record ReceivingAll (outs0 outs : List (Vec Out Global)) (ins0 ins : List (Vec In Global)) (rooms0 rooms : List (Vec (Vec Frame Global) Global)) (ports0 ports : List Plain) : Type 0 where

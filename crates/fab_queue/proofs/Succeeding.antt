@@ -1,8 +1,9 @@
 -- The plain ports that go on where ports ended.
-use Rattle.std.proofs.Common.{◌≡◌, ℕ, zero, suc, ◌<◌, ◌≤◌, List, [], ◌∷◌, map, length, get_or, sym, refl, ap, ◌∙◌, subst, arith, Ok, Err}
+use Rattle.std.proofs.Common.{◌≡◌, ℕ, ◌<◌, ◌≤◌, List, map, length, get_or, sym, ap, ◌∙◌, subst, arith, Ok, Err}
 use native.Mathlib.Decide.{dec_le}
 use Rattle.std.specs.Prelude.{Option, None, Result, IfOk}
 use Rattle.std.proofs.Math.ListN.{get_or-eq_default}
+use Rattle.std.proofs.lemmas.List.{get_or-map as map_at}
 use Rattle.fab_base.specs.declared.frames.FrameHead.{FrameHead}
 use Rattle.fab_link.specs.Meaning.{AreFresh}
 use Rattle.fab_link.specs.Plain as plain
@@ -10,11 +11,6 @@ use Rattle.fab_link.specs.Plain.{Plain, lane_at, fresh_lane}
 use Rattle.fab_queue.specs.Ends.{new_out, new_in}
 use Rattle.fab_queue.specs.Ports.{Queued, no_lane, out_at, in_at, IsSound}
 use Rattle.fab_queue.specs.Gather.{posted_end, taken_end_of, Succeeds}
-
-map_at : {X Y : Type 0} (f : X → Y) (xs : List X) (d : ℕ) (x : X) (y : Y) → d < length xs → get_or (map f xs) d y ≡ f (get_or xs d x)
-map_at f [] d x y near = absurd (omega arith)
-map_at f (z ∷ zs) zero x y near = refl
-map_at f (z ∷ zs) (suc d) x y near = map_at f zs d x y (omega arith)
 
 module _ (p : Queued) (q : Plain) (posted taken : List (Option FrameHead)) (k : IsSound p) (posted_is : posted ≡ map posted_end p.outs) (taken_is : taken ≡ map taken_end_of p.ins) (peers : length q.lanes ≡ length p.outs)
     (lanes : (d : ℕ) → d < length p.outs → lane_at q d ≡ fresh_lane (get_or posted d None) (get_or taken d None)) where

@@ -1,13 +1,17 @@
 -- The order of a port's moves still tells what was posted and taken, and is stamped.
-use Rattle.std.proofs.Common.{◌≡◌, ℕ, ◌+◌, ◌^◌, ◌<◌, max, eqb, cond, Bool, true, false, List, [], ◌∷◌, ◌++◌, map, length, set, get_or, sym, refl, ap, ◌∙◌, subst, arith, length-set, get_or-set_same, get_or-set_other, eq-eqb, ne_eqb, append-nil}
+use Rattle.std.proofs.Common.{◌≡◌, ℕ, ◌+◌, ◌^◌, ◌<◌, max, eqb, cond, List, [], ◌∷◌, ◌++◌, map, length, set, get_or, sym, refl, ap, ◌∙◌, subst, length-set, get_or-set_same, get_or-set_other, eq-eqb, ne_eqb, append-nil}
 use mathlib.Core.List.{map-append}
 use mathlib.Core.Logic.{dite}
 use native.Mathlib.Decide.{ℕ_discrete}
-use Rattle.fab_wire.specs.declared.moves.Move.{Move}
-use Rattle.fab_wire.specs.declared.moves.Move.TheVariants.{Post, Take}
-use Rattle.fab_wire.specs.Merged.{IsStampedAbove, posts_to, takes_of}
+use Rattle.fab_link.specs.declared.moves.Move.{Move}
+use Rattle.fab_link.specs.declared.moves.Move.TheVariants.{Post, Take}
+use Rattle.fab_link.specs.Merged.{IsStampedAbove, posts_to, takes_of}
 use Rattle.fab_queue.specs.declared.lane.Sent.{Sent}
-use Rattle.std.specs.Prelude.{Option, Some, None, IsSome}
+use Rattle.std.specs.Prelude.{Some, IsSome}
+use Rattle.fab_base.proofs.Lists.{cond_more}
+use Rattle.fab_base.proofs.Numbers.{max_next as next_is}
+use Rattle.fab_base.proofs.Options.{there_is as is_there}
+use Rattle.fab_link.proofs.Merging.{stamped_take}
 use Rattle.fab_queue.specs.Ends.{Out, In, new_out, new_in, taken_one}
 use Rattle.fab_queue.specs.Ports.{Queued, no_lane, out_at, in_at, with_out, with_in, number, stamp, greatest, clock_of, IsTold}
 
@@ -15,22 +19,10 @@ greatest_more : (g : ℕ) (ms : List Move) (m : Move) → greatest g (ms ++ m �
 greatest_more g [] m = refl
 greatest_more g (x ∷ xs) m = greatest_more (max g (stamp x)) xs m
 
-next_is : (g j : ℕ) → j ≡ g + 1 → j ≡ max g j
-next_is g j e = omega arith
-
 stamped_post : (g : ℕ) (ms : List Move) (d k : ℕ) → IsStampedAbove g ms → k ≡ greatest g ms + 1 → IsStampedAbove g (ms ++ Post d k ∷ [])
 stamped_post g [] d k s next = (next, tt)
 stamped_post g (Post e j ∷ xs) d k s next = (s.0, stamped_post j xs d k s.1 (next ∙ ap (λ (z : ℕ). greatest z xs + 1) (sym (next_is g j s.0))))
 stamped_post g (Take e j ∷ xs) d k s next = stamped_post (max g j) xs d k s next
-
-stamped_take : (g : ℕ) (ms : List Move) (d k : ℕ) → IsStampedAbove g ms → IsStampedAbove g (ms ++ Take d k ∷ [])
-stamped_take g [] d k s = tt
-stamped_take g (Post e j ∷ xs) d k s = (s.0, stamped_take j xs d k s.1)
-stamped_take g (Take e j ∷ xs) d k s = stamped_take (max g j) xs d k s
-
-cond_more : (b : Bool) (k : ℕ) (a t : List ℕ) → cond b (k ∷ (a ++ t)) (a ++ t) ≡ cond b (k ∷ a) a ++ t
-cond_more true k a t = refl
-cond_more false k a t = refl
 
 posts_more : (d : ℕ) (ms : List Move) (m : Move) → posts_to d (ms ++ m ∷ []) ≡ posts_to d ms ++ posts_to d (m ∷ [])
 posts_more d [] m = refl
@@ -103,10 +95,6 @@ module _ (clock : ℕ) (p : Queued) (k : IsTold clock p) (d : ℕ) where
           (λ e ne. takes_more e p.moves m ∙ (λ j. takes_of e p.moves ++ cond (ne_eqb d e (λ e'. ne (sym e')) j) (x.number ∷ []) []) ∙ append-nil (takes_of e p.moves) ∙ k.1.takes e);
     },
   )
-
-is_there : {X : Type 0} (o : Option X) → IsSome o → (x : X) × (o ≡ Some x)
-is_there None e = absurd (cc)
-is_there (Some x) e = (x, refl)
 
 -- the same by what the ends tell
 pub posts : (clock : ℕ) (p : Queued) (d : ℕ) (x : Sent) (o o' : Out) → IsTold clock p → d < length p.outs → x.number ≡ clock_of p + 1 → o ≡ out_at p d → o' ≡ record o { posted = o.posted ++ x ∷ [] }

@@ -2,12 +2,13 @@
 --     Out, In                what is known at each end
 --     seen_full              a post found the lane full
 --     Looked, taken_one      a look, and a step over the frame that is lent
+--     none_found             a look that found no frame in the queue
 --     MayPut, MayGet         what an end keeps, and what its pass knows
 use Rattle.std.specs.Prelude.{◌≡◌, ℕ, ◌+◌, ◌⊎◌, true, List, [], ◌∷◌, ◌++◌, length, Option, Some, None, option_to_list}
 use Rattle.atomic_table.specs.Seated.{TableId}
 use Rattle.fab_base.specs.declared.frames.FrameHead.{FrameHead}
 use Rattle.fab_base.specs.declared.frames.Frame.{Frame}
-use Rattle.fab_wire.specs.Frames.{last_head}
+use Rattle.fab_link.specs.Frames.{last_head}
 use Rattle.fab_queue.specs.declared.lane.Sent.{Sent}
 use Rattle.fab_queue.specs.declared.lane.Log.{Log}
 use Rattle.fab_queue.specs.Lanes.{frames_of, Continues}
@@ -61,11 +62,15 @@ frame_in (Some x) = Some x.frame
 abbrev pub taken_one : In → Sent → In
 taken_one i x = record i { taken = i.taken ++ x ∷ []; lent = None }
 
+-- one pop more of the queue found none: it is on record, with how many frames were taken
+abbrev pub none_found : In → In
+none_found i = record i { empty_seen = i.empty_seen + 1; empty_at = length i.taken }
+
 -- a frame that is lent stays; else one came, or a pop found none
 abbrev pub LookedAt : Option Sent → In → In → Type 0
 LookedAt (Some x) old new = new ≡ old
 LookedAt None old new = ((x : Sent) × Continues old.taken x × (new ≡ record old { lent = Some x }))
-    ⊎ (new ≡ record old { empty_seen = old.empty_seen + 1; empty_at = length old.taken })
+    ⊎ (new ≡ none_found old)
 
 abbrev pub Looked : In → In → Type 0
 Looked old new = LookedAt old.lent old new

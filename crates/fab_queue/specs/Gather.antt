@@ -8,7 +8,7 @@ use Rattle.std.specs.Prelude.{◌≡◌, ℕ, ◌+◌, ◌^◌, ◌<◌, ◌≤�
 use Rattle.std.specs.declared.alloc.Global.{Global}
 use Rattle.fab_base.specs.declared.frames.FrameHead.{FrameHead}
 use Rattle.fab_base.specs.declared.frames.Frame.{Frame}
-use Rattle.fab_wire.specs.Frames.{last_head, IsLane}
+use Rattle.fab_link.specs.Frames.{last_head, IsLane}
 use Rattle.fab_link.specs.Meaning.{AreFresh, end_of, taken_end}
 use Rattle.fab_link.specs.Plain as plain
 use Rattle.fab_link.specs.Plain.{Plain, lane_at, fresh_lane}

@@ -4,13 +4,13 @@
 --     IsTold                the order tells what was posted and taken, and is stamped
 use Rattle.std.specs.Prelude.{◌≡◌, ℕ, ◌^◌, ◌<◌, max, List, [], ◌∷◌, length, map, None, slice_index_or, slice_set}
 use Rattle.atomic_table.specs.Seated.{TableId}
-use Rattle.fab_wire.specs.declared.moves.Move.{Move}
-use Rattle.fab_wire.specs.declared.moves.Move.TheVariants.{Post, Take}
-use Rattle.fab_wire.specs.Merged.{IsStamped, posts_to, takes_of}
+use Rattle.fab_link.specs.declared.moves.Move.{Move}
+use Rattle.fab_link.specs.declared.moves.Move.TheVariants.{Post, Take}
+use Rattle.fab_link.specs.Merged.{IsStamped, posts_to, takes_of}
 use Rattle.fab_link.specs.Meaning.{Outgoing, Incoming}
 use Rattle.fab_queue.specs.declared.lane.Sent.{Sent}
 use Rattle.fab_queue.specs.Lanes.{frames_of}
-use Rattle.fab_queue.specs.Ends.{Out, In, new_out, new_in, frame_in}
+use Rattle.fab_queue.specs.Ends.{Out, In, new_out, new_in, frame_in, none_found}
 
 pub record Queued : Type 0 where
   pub number : ℕ
@@ -47,6 +47,10 @@ out_of p d = outgoing (out_at p d)
 
 abbrev pub in_of : Queued → ℕ → Incoming
 in_of p s = incoming (in_at p s)
+
+-- no frame of s is lent, and a pop of the queue found none between the two
+abbrev pub PopFoundNone : Queued → Queued → ℕ → Type 0
+PopFoundNone p q s = ((in_at p s).lent ≡ None) × (in_at q s ≡ none_found (in_at p s))
 
 abbrev pub number_of : Queued → ℕ
 number_of p = p.number

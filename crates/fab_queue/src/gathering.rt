@@ -1,6 +1,6 @@
 //! Ports gathered into plain ports.
 ghost use Rattle.std.specs.Prelude.{◌≡◌, map, length, IfErr, IfOk, OnOk, IsTrue};
-ghost use Rattle.fab_wire.specs.Merged.{merges};
+ghost use Rattle.fab_link.specs.Merged.{merges};
 ghost use Rattle.fab_queue.specs.Ports.{moves_of};
 ghost use Rattle.fab_queue.specs.Gather.{AreAll, AreApart, Gathered};
 

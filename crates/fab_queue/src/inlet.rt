@@ -1,6 +1,6 @@
 //! The end of a lane at which one peer takes.
 ghost use Rattle.std.specs.Prelude.{◌≡◌, ◌++◌, ◌∷◌, [], Some, None, IsSome, IfSome};
-ghost use Rattle.fab_wire.specs.Frames.{last_head, lent_frame, MayCome};
+ghost use Rattle.fab_link.specs.Frames.{last_head, lent_frame, MayCome};
 ghost use Rattle.fab_link.specs.Plain.{lent_frames};
 ghost use Rattle.fab_queue.specs.declared.lane.Sent.{Sent};
 ghost use Rattle.fab_queue.specs.Lanes.{frames_of};

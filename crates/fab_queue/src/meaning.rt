@@ -1,10 +1,10 @@
 //! The port's calls, in the words of all ports.
 ghost use Rattle.std.specs.Prelude.{◌≡◌, ◌≢◌, ◌<◌, ◌≤◌, ◌⊎◌, ◌++◌, ◌∷◌, [], length, false, true, None, Some, IsErrOf, OnOk, OnErr, Err};
 ghost use Rattle.fab_base.specs.Counts.{Rose};
-ghost use Rattle.fab_wire.specs.Frames.{frame, Continues};
-ghost use Rattle.fab_wire.specs.declared.moves.Move.TheVariants.{Post};
+ghost use Rattle.fab_link.specs.Frames.{frame, Continues};
+ghost use Rattle.fab_link.specs.declared.moves.Move.TheVariants.{Post};
 ghost use Rattle.fab_link.specs.Meaning.{Others, end_of, Noticed, Repays, GrewBy};
-ghost use Rattle.fab_queue.specs.Ports.{Lanes, number_of, peers_of, room_of, out_of, in_of, moves_of, lanes_of, clock_of, most};
+ghost use Rattle.fab_queue.specs.Ports.{Lanes, number_of, peers_of, room_of, out_of, in_of, moves_of, lanes_of, PopFoundNone, clock_of, most};
 
 use crate::lane::Sent;
 use crate::port::QueuePort;
@@ -33,7 +33,11 @@ impl<R: Wait + Copy> Port for QueuePort<R> {
 
     ghost in_list = { λ h s. None };
 
+    ghost SawNone = { PopFoundNone };
+
     ghost taken_first = { λ p s. tt };
+
+    ghost none_behind = { λ p q s saw. tt };
 
     fn me(&self) -> u32 {
         self.number()

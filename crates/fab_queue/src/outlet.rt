@@ -1,6 +1,6 @@
 //! The end of a lane at which one peer posts.
 ghost use Rattle.std.specs.Prelude.{◌≡◌, ◌++◌, ◌∷◌, ◌≤◌, [], length, OnOk, OnErr, None};
-ghost use Rattle.fab_wire.specs.Frames.{last_head};
+ghost use Rattle.fab_link.specs.Frames.{last_head};
 ghost use Rattle.fab_queue.specs.Lanes.{frames_of, Continues};
 ghost use Rattle.fab_queue.specs.Ends.{seen_full};
 

@@ -1,8 +1,8 @@
 //! A peer's ends of all its lanes.
 ghost use Rattle.std.specs.Prelude.{◌≡◌, ℕ, ◌+◌, ◌<◌, ◌≤◌, ◌++◌, ◌∷◌, [], length, OnOk, IsErrOf, OnErr, IsSome, IfSome, IfNone, Some};
 ghost use Rattle.fab_base.specs.declared.frames.Frame.{Frame};
-ghost use Rattle.fab_wire.specs.Frames.{lent_frame, MayCome};
-ghost use Rattle.fab_wire.specs.declared.moves.Move.TheVariants.{Post, Take};
+ghost use Rattle.fab_link.specs.Frames.{lent_frame, MayCome};
+ghost use Rattle.fab_link.specs.declared.moves.Move.TheVariants.{Post, Take};
 ghost use Rattle.fab_link.specs.Meaning.{taken_end};
 ghost use Rattle.fab_link.specs.Plain.{lent_frames};
 ghost use Rattle.fab_queue.specs.declared.lane.Sent.{Sent};
@@ -14,9 +14,8 @@ use crate::inlet::Inlet;
 use crate::lane::Sent;
 use crate::outlet::Outlet;
 use fab_base::FrameRef;
-use fab_link::PostRefused;
+use fab_link::{Move, PostRefused};
 use fab_record::record::{Begins, Change, Record};
-use fab_wire::Move;
 use std::alloc::Global;
 use std::marker::Model;
 use std::sync::Wait;
@@ -28,7 +27,7 @@ pub(crate) struct Moves {
 
 impl Model for Moves {
     ghost use Rattle.std.specs.Prelude.{List, []};
-    ghost use Rattle.fab_wire.specs.declared.moves.Move.{Move};
+    ghost use Rattle.fab_link.specs.declared.moves.Move.{Move};
 
     ghost Value = { List Move };
 

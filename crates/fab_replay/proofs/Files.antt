@@ -1,7 +1,8 @@
 -- The payload file under a number.
-use Rattle.std.proofs.Common.{◌≡◌, ℕ, ◌≤◌, ◌⊎◌, inl, inr, List, [], ◌∷◌, length, drop, min, refl, sym, ◌∙◌, arith}
+use Rattle.std.proofs.Common.{◌≡◌, ℕ, ◌≤◌, ◌⊎◌, inl, inr, List, [], ◌∷◌, length, drop, min, refl, sym, ◌∙◌}
 use Rattle.std.proofs.Math.ListN.{drop_of_length-le}
 use Rattle.fab_base.specs.declared.script.Payload.{Payload}
+use Rattle.fab_base.proofs.Numbers.{min_within as either_within}
 use Rattle.fab_model.specs.Replay.{payload}
 
 none_left : (ps : List Payload) (files : List (List ℕ)) (id : ℕ) → (ps ≡ []) ⊎ (files ≡ []) → payload ps files id ≡ []
@@ -9,9 +10,6 @@ none_left [] files id none = refl
 none_left (p ∷ ps) [] id none = refl
 none_left (p ∷ ps) (file ∷ files) id (inl none) = cc
 none_left (p ∷ ps) (file ∷ files) id (inr none) = cc
-
-either_within : (m n i : ℕ) → i ≡ min m n → (m ≤ i) ⊎ (n ≤ i)
-either_within m n i is = grind arith
 
 one_empty : (ps : List Payload) (files : List (List ℕ)) (i : ℕ) → (length ps ≤ i) ⊎ (length files ≤ i) → (drop i ps ≡ []) ⊎ (drop i files ≡ [])
 one_empty ps files i (inl short) = inl (drop_of_length-le ps short)

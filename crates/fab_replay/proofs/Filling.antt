@@ -1,5 +1,5 @@
 -- How many entries a draw and the bytes of an item write: what is told before of the room that they need is what is so after.
-use Rattle.std.proofs.Common.{◌≡◌, ℕ, zero, suc, ◌+◌, ◌<◌, ◌≤◌, Bool, true, false, not, ◌&&◌, ◌||◌, cond, List, [], ◌∷◌, ◌++◌, length, take, drop, Option, Some, None, refl, sym, ap, ap₂, subst, ◌∙◌, arith, length-append, eqb}
+use Rattle.std.proofs.Common.{◌≡◌, ℕ, zero, suc, ◌+◌, ◌<◌, ◌≤◌, Bool, true, false, not, ◌&&◌, ◌||◌, cond, List, [], ◌∷◌, ◌++◌, length, take, drop, Option, Some, None, refl, sym, ap, ap₂, subst, ◌∙◌, arith, eqb}
 use Rattle.std.specs.Prelude.{find, is_some, nat_lt, slice_set}
 use Rattle.std.specs.List.{list_any}
 use Rattle.std.proofs.lemmas.Bool.{eq-eqb, ltb-true, ltb-false, lt-ltb}
@@ -10,24 +10,25 @@ use Rattle.fab_base.specs.declared.items.Kind.{Kind}
 use Rattle.fab_base.specs.declared.items.Kind.TheVariants.{Msg, TagMsg, WriteReq, ReadReq, AtomicReq, Reply}
 use Rattle.fab_base.specs.declared.items.Outcome.{Outcome}
 use Rattle.fab_base.specs.declared.items.Outcome.TheVariants.{Done, BadKey, BadAccess, BadRange}
-use Rattle.fab_base.specs.declared.entries.Taken.{Taken}
 use Rattle.fab_base.specs.declared.operations.Receive.{Receive}
 use Rattle.fab_base.specs.declared.operations.Arrival.{Arrival}
 use Rattle.fab_base.specs.declared.operations.Coming.{Coming}
 use Rattle.fab_base.specs.declared.operations.Coming.TheVariants.{Into, Keep, Throw, Request, Answer}
 use Rattle.fab_base.specs.declared.operations.Operation.{Operation}
-use Rattle.fab_model.specs.State.{State, Receiving, Completions, Region, coming_from, under_way, is_into, fits, writing, with_rx, with_tx, count}
+use Rattle.fab_model.specs.State.{State, Receiving, Completions, Region, coming_from, under_way, is_into, fits, with_rx, with_tx}
 use Rattle.fab_model.specs.Matching.{change_first, takes}
 use Rattle.fab_model.specs.Complete.{fill, fill_multi, filled, filling, is_made_by, release, release_multi, book, reply}
 use Rattle.fab_base.specs.Replies.{at_either}
+use Rattle.fab_base.proofs.Lists.{list_any-find as any_found}
 use Rattle.fab_model.specs.Receiving.{draws, give, without_first}
-use Rattle.fab_model.specs.Arrivals.{stays, shut, seating, do_draw, made_whole, tail_to, do_tail, do_request, remote_class, remote_data, remote_event, with_regions}
+use Rattle.fab_model.specs.Arrivals.{stays, shut, seating, do_draw, made_whole, tail_to, do_tail, do_request, remote_data, with_regions}
 use Rattle.fab_model.specs.Sending.{is_answered_by, answering, going_on, do_answer}
 use Rattle.fab_model.specs.Target.{is_keyed, outcome_of, perform}
-use Rattle.fab_reference.specs.Room.{has_room, entries_given, entries_taken, entries_drawn, is_let_go, entries_into, entries_to, entries_tail, entries_told, entries_of_end}
-use Rattle.fab_halves.specs.Places.{is_under_way_besides}
-use Rattle.fab_reference.proofs.Growing.{Grows, fits_grown, give_grows, end_grows}
-use Rattle.fab_reference.proofs.Answering.{draw_none, draw_untaken, drawn_none, drawn_untaken, drawn_some}
+use Rattle.fab_model.proofs.Unchanged.{event_cq, book_cq, book_rx}
+use Rattle.fab_checker_machine.specs.Room.{has_room, entries_given, entries_taken, entries_drawn, is_let_go, entries_into, entries_to, entries_tail, entries_told, entries_of_end}
+use Rattle.fab_checker_halves.specs.Places.{is_under_way_besides}
+use Rattle.fab_checker_machine.proofs.Growing.{Grows, fits_grown, give_grows, end_grows, none_written, one_written, fill_grows}
+use Rattle.fab_checker_machine.proofs.Answering.{draw_none, draw_untaken, drawn_none, drawn_untaken, drawn_some}
 
 -- ---- lists
 
@@ -47,14 +48,6 @@ made_fill_by call place bytes r rs (Some l) e = rw (e, fill_multi) (made_filled 
 
 made_fill : (call place : ℕ) (bytes : List ℕ) (r : Receive) (rs : List Receive) → list_any (is_made_by call) (fill_multi r place bytes rs) ≡ list_any (is_made_by call) rs
 made_fill call place bytes r rs = made_fill_by call place bytes r rs r.least refl
-
-any_by : {X : Type 0} (test : X → Bool) (x : X) (xs : List X) (b : Bool) → test x ≡ b → list_any test xs ≡ is_some (find test xs) → (b || list_any test xs) ≡ is_some (cond b (Some x) (find test xs))
-any_by test x xs true e ih = refl
-any_by test x xs false e ih = ih
-
-any_found : {X : Type 0} (test : X → Bool) (xs : List X) → list_any test xs ≡ is_some (find test xs)
-any_found test [] = refl
-any_found test (x ∷ xs) = any_by test x xs (test x) refl (any_found test xs)
 
 or_right : (b x y : Bool) → x ≡ y → (b || x) ≡ (b || y)
 or_right b x y e = ap (λ z. b || z) e
@@ -98,28 +91,8 @@ set_into call (suc n) place r (x ∷ xs) same =
 
 -- ---- queues
 
-none_written : (cq : Completions) → Grows 0 cq cq
-none_written cq = record { written = omega arith; taken_out = refl; size = refl }
-
-one_written : (call : Option ℕ) (entry : Taken) (cq : Completions) → Grows 1 cq (writing call entry cq)
-one_written call entry cq = record { written = length-append cq.written _; taken_out = refl; size = refl }
-
 then_written : (m n : ℕ) (a b c : Completions) → Grows m a b → Grows n b c → Grows (m + n) a c
 then_written m n a b c g h = record { written = omega (arith, g.written, h.written); taken_out = h.taken_out ∙ g.taken_out; size = h.size ∙ g.size }
-
-book_cq : (due : Bool) (source : ℕ) (head : ItemHead) (s : State) → (book due source head s).cq ≡ s.cq
-unfolding book reply
-book_cq true source head s = refl
-book_cq false source head s = refl
-
-book_rx : (due : Bool) (source : ℕ) (head : ItemHead) (s : State) → (book due source head s).rx ≡ s.rx
-unfolding book reply
-book_rx true source head s = refl
-book_rx false source head s = refl
-
-fill_grows : (r : Receive) (place source : ℕ) (head : ItemHead) (bytes : List ℕ) (s : State) → Grows 1 s.cq (fill r place source head bytes s).cq
-unfolding fill
-fill_grows r place source head bytes s = one_written _ _ s.cq
 
 fill_rx : (r : Receive) (place source : ℕ) (head : ItemHead) (bytes : List ℕ) (s : State) → (fill r place source head bytes s).rx ≡ filling r place bytes s.rx
 unfolding fill
@@ -261,17 +234,6 @@ told_grows Done source head s = told_by source head s head.kind head.imm refl re
 told_grows BadKey source head s = none_written s.cq
 told_grows BadAccess source head s = none_written s.cq
 told_grows BadRange source head s = none_written s.cq
-
--- what counts at the target writes no entry
-event_cq : (o : Outcome) (head : ItemHead) (s : State) → (remote_event o head s).cq ≡ s.cq
-event_cq Done head s = counted s.caps.rma_event
-  where
-    counted : (b : Bool) → (let t : State = elim b [ true ↦ count (remote_class head) true s | false ↦ s ] in t.cq) ≡ s.cq
-    counted true = refl
-    counted false = refl
-event_cq BadKey head s = refl
-event_cq BadAccess head s = refl
-event_cq BadRange head s = refl
 
 request_grows : (s : State) (source : ℕ) (head : ItemHead) (bytes : List ℕ) → Grows (entries_told (outcome_of (find (is_keyed head.key) s.regions) head) head) s.cq (do_request s source head bytes).cq
 unfolding do_request reply

@@ -1,15 +1,9 @@
 -- What `get` of a slice lends.
-use Rattle.std.proofs.Common.{◌≡◌, ℕ, ◌==◌, List, [], length, map, Bor, slice_get, Option, Some, None, refl, sym, ap, ap₂, ◌∙◌}
+use Rattle.std.proofs.Common.{◌≡◌, ℕ, ◌==◌, List, [], length, map, slice_get, Option, Some, None, refl, sym, ap, ap₂, ◌∙◌}
 use Rattle.std.specs.Prelude.{slice_index, slice_index_or}
-use Rattle.std.specs.Option.{option_copied, option_map, option_map_or}
-use Rattle.std.specs.Slice.{IsItemAt}
-use Rattle.std.proofs.lemmas.Option.{slice_get_past, slice_get_read, slice_get-map}
+use Rattle.std.specs.Option.{option_map, option_map_or}
+use Rattle.std.proofs.lemmas.Option.{slice_get-map}
 use Rattle.fab_model.specs.Peers.{Actor, Facts, facts, has_all}
-
--- it lends the item there
-pub option_copied-get : {X : Type 0} (xs : List X) (i : ℕ) (item : Option (Bor X)) → IsItemAt xs i item → option_copied item ≡ slice_get xs i
-option_copied-get xs i None is = sym (slice_get_past xs i is.3)
-option_copied-get xs i (Some x) is = sym (slice_get_read xs (length xs) i x.now refl is.3.0 is.1)
 
 -- the same place of the same list
 pub same_get : {X : Type 0} (xs ys : List X) (i j : ℕ) (o : Option X) → xs ≡ ys → j ≡ i → slice_get ys j ≡ o → slice_get xs i ≡ o

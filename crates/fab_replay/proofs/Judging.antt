@@ -81,7 +81,7 @@ none_by : (p : ℕ) (steps : List Step) (rest : List (List Step)) → length ste
 none_by p [] rest none = refl
 none_by p (step ∷ steps) rest none = absurd (omega arith)
 
-drop_peer : (peers : List Peer) (k : ℕ) (d : Peer) → k < length peers → drop k peers ≡ get_or peers k d ∷ drop (k + 1) peers
+pub drop_peer : (peers : List Peer) (k : ℕ) (d : Peer) → k < length peers → drop k peers ≡ get_or peers k d ∷ drop (k + 1) peers
 drop_peer peers k d within = rw add-one (drop-cons peers k d within)
 
 pub has_left : (peers : List Peer) (k : ℕ) (x : Peer) → k < length peers → x ≡ get_or peers k x → x.taken < length x.steps → first_left k (map left_of (drop k peers)) ≡ Some k

@@ -1,7 +1,6 @@
 -- Multi-receives made and released, and the buffer of one.
 use Rattle.std.proofs.Common.{◌≡◌, ℕ, ◌+◌, ◌-◌, ◌<◌, ◌≤◌, ◌⊎◌, inl, inr, Bool, false, List, [], ◌∷◌, ◌++◌, length, take, drop, map, min, count_by, Option, Some, None, refl, sym, ap, ap₂, ◌∙◌, arith, eqb, ltb, cond}
 use Rattle.std.specs.Prelude.{zip, find, unwrap_or}
-use Rattle.std.proofs.Math.ListN.{drop_of_length-le}
 use Rattle.std.proofs.lemmas.Bool.{ne_eqb}
 use Rattle.std.proofs.lemmas.Bool.Decides.{nat_tests}
 use Rattle.std.proofs.lemmas.List.Folds.{find-append}
@@ -13,9 +12,11 @@ use Rattle.fab_base.specs.declared.script.Bound.{Bound}
 use Rattle.fab_base.specs.declared.script.Line.{Line}
 use Rattle.fab_base.specs.declared.script.LineOp.{LineOp}
 use Rattle.fab_base.specs.declared.script.LineOp.TheVariants.{MRecv}
+use Rattle.fab_base.proofs.Numbers.{min_within as either_within}
 use Rattle.fab_model.specs.State.{State}
 use Rattle.fab_model.specs.Peers.{Actor, is_multi_line, is_release, is_only_multi, multi_buf, first_some, released_buf}
 use Rattle.fab_model.specs.Replay.{bind_line, bind_op}
+use Rattle.fab_report.proofs.Blanks.{one_empty}
 use Rattle.fab_replay.specs.Seen.{is_made}
 
 -- ---- lines
@@ -43,13 +44,6 @@ none_counted ctx [] results none = refl
 none_counted ctx (line ∷ lines) [] none = refl
 none_counted ctx (line ∷ lines) (x ∷ results) (inl none) = cc
 none_counted ctx (line ∷ lines) (x ∷ results) (inr none) = cc
-
-either_within : (m n i : ℕ) → i ≡ min m n → (m ≤ i) ⊎ (n ≤ i)
-either_within m n i is = grind arith
-
-one_empty : (lines : List Line) (results : List LineResult) (i : ℕ) → (length lines ≤ i) ⊎ (length results ≤ i) → (drop i lines ≡ []) ⊎ (drop i results ≡ [])
-one_empty lines results i (inl short) = inl (drop_of_length-le lines short)
-one_empty lines results i (inr short) = inr (drop_of_length-le results short)
 
 -- at the end of a loop over lines and results all are counted
 pub all_counted : (ctx : ℕ) (lines : List Line) (results : List LineResult) (i made whole : ℕ) → i ≡ min (length lines) (length results) → made + count_by (is_multi_line ctx) (zip (drop i lines) (drop i results)) ≡ whole → made ≡ whole

@@ -46,7 +46,7 @@ peer_bound b p lines results kept pending deferred steps = rw (done_bound b line
 
 -- ---- parts
 
-drop_here : {X : Type 0} (xs : List X) (k : ℕ) (d : X) → k < length xs → drop k xs ≡ get_or xs k d ∷ drop (suc k) xs
+pub drop_here : {X : Type 0} (xs : List X) (k : ℕ) (d : X) → k < length xs → drop k xs ≡ get_or xs k d ∷ drop (suc k) xs
 drop_here [] k d l = absurd (omega arith)
 drop_here (y ∷ xs) zero d l = refl
 drop_here (y ∷ xs) (suc k) d l = drop_here xs k d (omega arith)

@@ -6,6 +6,7 @@ use Rattle.std.proofs.lemmas.List.{length-map, map-set, length-set}
 use Rattle.std.proofs.lemmas.Option.{slice_get-map, slice_get_read}
 use Rattle.fab_base.specs.declared.peers.Step.{Step}
 use Rattle.fab_base.specs.declared.script.Bound.{Bound}
+use Rattle.fab_base.proofs.Lists.{drop_first as first_left}
 use Rattle.fab_model.specs.Laws.{Run}
 use Rattle.fab_model.specs.Orders.{Moment, turn, lowest, replay, replay_for, steps_left}
 use Rattle.fab_model.specs.Peers.{Actor, fabric}
@@ -22,12 +23,6 @@ nothing_left [] zero e = refl
 nothing_left [] (suc k) e = refl
 nothing_left (x ∷ xs) zero e = absurd (cc)
 nothing_left (x ∷ xs) (suc k) e = nothing_left xs k e
-
-first_left : {X : Type 0} (xs : List X) (k : ℕ) (x : X) → slice_get xs k ≡ Some x → drop k xs ≡ x ∷ drop (suc k) xs
-first_left [] zero x e = absurd (cc)
-first_left [] (suc k) x e = absurd (cc)
-first_left (y ∷ xs) zero x e = let same : y ≡ x = cc in ap (λ z. z ∷ xs) same
-first_left (y ∷ xs) (suc k) x e = first_left xs k x e
 
 pub took_true : {S : Type 0} (b : Bool) (x y : S) (o : Option S) → b ≡ true → Took b x y o → o ≡ Some y
 took_true true x y o e t = t

@@ -9,6 +9,7 @@ use Rattle.fab_model.specs.Replay.{agree, agree_all, can_do, is_idle, all_idle, 
 use Rattle.fab_replay.specs.declared.turns.Peer.{Peer}
 use Rattle.fab_replay.specs.Seen.{actor_of, actors_of}
 use Rattle.fab_replay.specs.Rest.{is_still, all_still}
+use Rattle.fab_replay.proofs.Judging.{drop_peer}
 
 regroup : (a b c d : Bool) → ((a && b) && (c && d)) ≡ ((a && c) && (b && d))
 regroup true true c d = refl
@@ -31,9 +32,6 @@ unfolding at_rest
 rests_not all still s fails = ap (λ b. b && list_all (λ a. not (can_do a)) all) (sym (sym s ∙ fails)) ∙ sym (in_parts all 0 all)
 
 -- ---- one peer after another
-
-drop_peer : (peers : List Peer) (k : ℕ) (d : Peer) → k < length peers → drop k peers ≡ get_or peers k d ∷ drop (k + 1) peers
-drop_peer peers k d within = rw add-one (drop-cons peers k d within)
 
 here : (peers : List Peer) (k : ℕ) (x : Peer) → k < length peers → x ≡ get_or peers k x → drop k peers ≡ x ∷ drop (k + 1) peers
 here peers k x within is = drop_peer peers k x within ∙ ap (λ y. y ∷ drop (k + 1) peers) (sym is)

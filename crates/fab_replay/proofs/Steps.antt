@@ -5,7 +5,7 @@ use Rattle.fab_base.specs.declared.items.Item.{Item}
 use Rattle.fab_base.specs.declared.items.ItemHead.{ItemHead}
 use Rattle.fab_base.specs.declared.operations.Receive.{Receive}
 use Rattle.fab_model.specs.Views.{View}
-use Rattle.std.proofs.lemmas.Bool.{lt-ltb, ne_eqb, eq-eqb}
+use Rattle.std.proofs.lemmas.Bool.{lt-ltb, ne_eqb, eq-eqb, and_right as and_false}
 use Rattle.std.proofs.lemmas.Bool.Decides.{nat_tests}
 use Rattle.fab_base.specs.declared.entries.Class.{Class}
 use Rattle.fab_base.specs.declared.peers.LineResult.{LineResult}
@@ -19,8 +19,8 @@ use Rattle.fab_model.specs.Replay.{bind_line, bind_op}
 use Rattle.fab_model.specs.State.{State, accepted_for, fits, tally_of}
 use Rattle.fab_model.specs.Sending.{do_sent}
 use Rattle.fab_model.specs.Peers.{Actor, only_if, with_state, next_line, do_next, do_line, wait_line, call_line, head_step, tail_step, sent_step, draw_step, final_step}
-use Rattle.fab_reference.specs.Room.{has_room, entries_sent, entries_tail, entries_drawn}
-use Rattle.fab_reference.proofs.Growing.{fits_sent, fits_cancel}
+use Rattle.fab_checker_machine.specs.Room.{has_room, entries_sent, entries_tail, entries_drawn}
+use Rattle.fab_checker_machine.proofs.Growing.{fits_sent, fits_cancel}
 use Rattle.fab_replay.specs.Seen.{Took}
 use Rattle.fab_replay.proofs.Again.{line_calls}
 use Rattle.fab_replay.proofs.Filling.{fits_drawn, fits_tail}
@@ -113,10 +113,6 @@ head_not_by v a source (Some item) e waits = rw (e, head_step, waits, only_if) r
 head_not : (v : View Item) (a : Actor) (source : ℕ) → arrives a source ≡ false → head_step v a source ≡ None
 head_not v a source waits = head_not_by v a source (slice_get (v.ready source) (slice_index a.state.rx.heads source)) refl waits
 
-and_false : (b c : Bool) → c ≡ false → (b && c) ≡ false
-and_false true c e = e
-and_false false c e = refl
-
 pub head_differs : (v : View Item) (a : Actor) (source n m : ℕ) → n ≡ slice_index a.state.rx.heads source → m ≡ slice_index a.state.rx.tails source → n ≢ m → head_step v a source ≡ None
 head_differs v a source n m heads tails differ =
     let no : (slice_index a.state.rx.heads source == slice_index a.state.rx.tails source) ≡ false = ne_eqb _ _ (λ same. differ (heads ∙ same ∙ sym tails)) in
@@ -190,5 +186,3 @@ pub final_is : (v : View Item) (a : Actor) (can room calm : Bool) → can ≡ is
     → final_step v a ≡ only_if (can && room && calm) (with_state a (do_call a.state CancelFirst).1)
 final_is v a can room calm e f g =
     final_by v a (cancellable (λ r. true) a.state.rx) room calm refl f g ∙ ap (λ b. only_if (b && room && calm) (with_state a (do_call a.state CancelFirst).1)) (sym e)
-
--- ---- what is led to

@@ -13,7 +13,7 @@ use Rattle.fab_model.specs.Calls.{CancelFirst, do_call}
 use Rattle.fab_model.specs.Peers as model
 use Rattle.fab_model.specs.Peers.{do_next, draw_step, only_if, read_next, same_ctx, sent_step, with_state}
 use Rattle.fab_model.specs.Replay.{lines_of}
-use Rattle.fab_reference.specs.Seen.{state_of}
+use Rattle.fab_checker_machine.specs.Seen.{state_of}
 use Rattle.fab_replay.specs.declared.actor.Actor.{Actor}
 use Rattle.fab_replay.specs.declared.turns.Peer.{Peer}
 use Rattle.fab_replay.specs.declared.ready.Ready.{Ready}

@@ -6,15 +6,15 @@ ghost use Rattle.fab_base.specs.declared.script.Bound.{Bound as BoundScript};
 ghost use Rattle.fab_model.specs.Peers.{is_again, wait_line, call_line, do_line, do_next, next_line, is_finished, sent_step, draw_step};
 ghost use Rattle.fab_model.specs.Replay.{bind_line, lines_of};
 ghost use Rattle.fab_model.specs.Report.{pending_of, deferred_of};
-ghost use Rattle.fab_reference.specs.Seen.{seen_call};
+ghost use Rattle.fab_checker_machine.specs.Seen.{seen_call};
 ghost use Rattle.fab_replay.specs.Seen.{actor_of, Took};
 
 use crate::lines::call_of;
 use fab_base::{Bound, Class, Fault, Line, LineOp, LineResult, NoMemory};
-use fab_items::lists::number_at;
+use fab_checker_machine::calls::Call;
+use fab_checker_machine::state::State;
+use fab_checker_values::lists::number_at;
 use fab_kept::KeptList;
-use fab_reference::calls::Call;
-use fab_reference::state::State;
 
 /// A peer of the replay. Its lines stand in the script, under its number.
 #[derive(Drop)]

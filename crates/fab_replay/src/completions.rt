@@ -3,15 +3,15 @@ ghost use Rattle.std.specs.Prelude.{◌≡◌, ℕ, find, count_by, zip, IfOk, S
 ghost use Rattle.std.specs.Option.{option_map};
 ghost use Rattle.fab_base.specs.declared.script.Bound.{Bound as BoundScript};
 ghost use Rattle.fab_model.specs.Peers.{part_of, is_multi_line, is_release, same_ctx, released_buf, first_some, multi_buf, is_only_multi, bytes_kept, read_next};
-ghost use Rattle.fab_reference.specs.Seen.{state_of};
+ghost use Rattle.fab_checker_machine.specs.Seen.{state_of};
 ghost use Rattle.fab_replay.specs.Seen.{actor_of, Took, is_made};
 
 use crate::actor::{Actor, lines_in};
 use fab_base::{
     Bound, Buf, Entry, Kept, Line, LineOp, LineResult, NoMemory, Receive, Taken, Written,
 };
-use fab_items::lists::split;
-use fab_reference::state::State;
+use fab_checker_machine::state::State;
+use fab_checker_values::lists::split;
 
 /// The context, the place and the length of a part, or of a truncated part.
 fn part_of(entry: &Taken) -> Option<(u64, u32, u32)>

@@ -5,16 +5,16 @@ ghost use Rattle.fab_base.specs.declared.items.Kind.TheVariants.{Msg, TagMsg};
 ghost use Rattle.fab_base.specs.declared.script.Bound.{Bound as BoundScript};
 ghost use Rattle.fab_model.specs.Replay.{payload, bind_word, bind_op};
 ghost use Rattle.fab_model.specs.Calls.{Look, word_bytes, message, request, atomic, posting, fetched, call_of};
-ghost use Rattle.fab_reference.specs.Seen.{seen_call};
+ghost use Rattle.fab_checker_machine.specs.Seen.{seen_call};
 
 use fab_base::{
     Atom, Bound, Buf, BytesWord, Flags, Form, Kind, Level, LineOp, NoMemory, Num, Payload, PeekHow,
     Text,
 };
-use fab_items::lists::split;
-use fab_items::orders::Order;
-use fab_reference::calls::Call;
-use fab_reference::receiving::Posting;
+use fab_checker_machine::calls::Call;
+use fab_checker_machine::receiving::Posting;
+use fab_checker_values::lists::split;
+use fab_checker_values::orders::Order;
 use std::alloc::Global;
 
 /// The bytes of the payload file under this number, or none.

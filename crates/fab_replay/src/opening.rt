@@ -2,16 +2,16 @@
 ghost use Rattle.std.specs.Prelude.{◌≡◌, [], None, Some, map, replicate, length, IfOk};
 ghost use Rattle.fab_model.specs.Calls.{upto};
 ghost use Rattle.fab_model.specs.Replay.{fresh, newly, lines_of, start};
-ghost use Rattle.fab_halves.specs.Seen.{rx_of, tx_of};
-ghost use Rattle.fab_reference.specs.Seen.{state_of};
+ghost use Rattle.fab_checker_halves.specs.Seen.{rx_of, tx_of};
+ghost use Rattle.fab_checker_machine.specs.Seen.{state_of};
 ghost use Rattle.fab_replay.specs.Seen.{actor_of, moment_of, steps_of};
 
 use crate::actor::Actor;
 use crate::turns::Peer;
 use fab_base::{Bound, Coming, Conf, List, NoMemory, Step, Tally};
-use fab_halves::{Receiving, Transmitting};
+use fab_checker_halves::{Receiving, Transmitting};
+use fab_checker_machine::state::{Completions, State};
 use fab_kept::KeptList;
-use fab_reference::state::{Completions, State};
 use std::alloc::Global;
 
 /// Nothing is coming from any of so many peers.

@@ -12,13 +12,13 @@ ghost use Rattle.fab_model.specs.Calls.{CancelFirst, do_call};
 ghost use Rattle.fab_base.specs.declared.items.Item.{Item as WholeItem};
 ghost use Rattle.fab_model.specs.State.{fits};
 ghost use Rattle.fab_model.specs.Views.{View, seen};
-ghost use Rattle.fab_reference.specs.Seen.{state_of};
+ghost use Rattle.fab_checker_machine.specs.Seen.{state_of};
 ghost use Rattle.fab_replay.specs.Seen.{actor_of, actors_of, led, Took};
 
 use crate::actor::Actor;
 use crate::turns::Peer;
 use fab_base::{Bound, Item, ItemHead, NoMemory, Step};
-use fab_items::lists::number_at;
+use fab_checker_values::lists::number_at;
 
 /// A step that is to be taken. What it needs of other peers is there, or it does not stand.
 #[derive(Drop)]

@@ -10,7 +10,7 @@ ghost use Rattle.fab_replay.specs.Rest.{is_still, all_still};
 use crate::actor::Actor;
 use crate::turns::Peer;
 use fab_base::{Bound, NoMemory};
-use fab_items::lists::number_at;
+use fab_checker_values::lists::number_at;
 
 /// Whether what the sender accepted for the receiver, what of it is sent and what of it is whole there are
 /// as many.

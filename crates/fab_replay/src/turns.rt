@@ -9,7 +9,7 @@ ghost use Rattle.fab_replay.specs.Seen.{actor_of, steps_of, moment_of, led, Took
 use crate::actor::Actor;
 use crate::ready::{Ready, prepare};
 use fab_base::{Bound, List, NoMemory, Step};
-use fab_items::lists::{narrowed, one_more};
+use fab_checker_values::lists::{narrowed, one_more};
 use std::alloc::Global;
 
 /// A peer with the steps of its schedule, and how many of these it took.

@@ -14,7 +14,7 @@ use crate::rest::are_at_rest;
 use crate::turns::{Peer, run};
 use crate::writing::report;
 use fab_base::{Bound, NoMemory};
-use fab_items::lists::{narrowed, one_more};
+use fab_checker_values::lists::{narrowed, one_more};
 use fab_report::read_schedule;
 use std::alloc::Global;
 

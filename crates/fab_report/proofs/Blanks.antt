@@ -1,5 +1,5 @@
 -- Words with a blank before each.
-use Rattle.std.proofs.Common.{◌≡◌, ℕ, List, [], ◌∷◌, ◌++◌, ◌≤◌, ◌⊎◌, inl, inr, length, drop, min, arith, refl, sym, ap, ◌∙◌, append_assoc, codes, Option, Some, None, Result, Ok, Err, OnOk}
+use Rattle.std.proofs.Common.{◌≡◌, ℕ, List, [], ◌∷◌, ◌++◌, ◌≤◌, ◌⊎◌, inl, inr, length, drop, min, refl, sym, ap, ◌∙◌, append_assoc, codes, Option, Some, None, Result, Ok, Err, OnOk}
 use Rattle.std.proofs.lemmas.List.{append-nil}
 use Rattle.std.specs.List.{join_with_byte}
 use Rattle.std.specs.Prelude.{option_to_list}
@@ -8,6 +8,7 @@ use Rattle.std.proofs.Math.ListN.{drop_of_length-le}
 use Rattle.fab_base.specs.declared.entries.Kept.{Kept}
 use Rattle.fab_base.specs.declared.script.Line.{Line}
 use Rattle.fab_base.specs.declared.peers.LineResult.{LineResult}
+use Rattle.fab_base.proofs.Numbers.{min_within as either_within}
 use Rattle.fab_model.specs.Report.{kept_words, done_lines}
 use Rattle.fab_kept.specs.Places.{somes}
 use Rattle.fab_report.specs.Texts.{after_blanks, left_text}
@@ -58,10 +59,7 @@ done_lines-none (line ∷ lines) [] none = refl
 done_lines-none (line ∷ lines) (x ∷ results) (inl none) = cc
 done_lines-none (line ∷ lines) (x ∷ results) (inr none) = cc
 
-either_within : (m n i : ℕ) → i ≡ min m n → (m ≤ i) ⊎ (n ≤ i)
-either_within m n i is = grind arith
-
-one_empty : (lines : List Line) (results : List LineResult) (i : ℕ) → (length lines ≤ i) ⊎ (length results ≤ i) → (drop i lines ≡ []) ⊎ (drop i results ≡ [])
+pub one_empty : (lines : List Line) (results : List LineResult) (i : ℕ) → (length lines ≤ i) ⊎ (length results ≤ i) → (drop i lines ≡ []) ⊎ (drop i results ≡ [])
 one_empty lines results i (inl short) = inl (drop_of_length-le lines short)
 one_empty lines results i (inr short) = inr (drop_of_length-le results short)
 

@@ -1,11 +1,12 @@
 -- A list, cut at the first byte of a kind.
-use Rattle.std.proofs.Common.{◌≡◌, ℕ, ◌+◌, ◌-◌, ◌<◌, ◌≤◌, Bool, true, false, cond, List, [], ◌∷◌, length, take, drop, Some, None, sym, ap, ◌∙◌, refl, arith, eqb, length-drop}
+use Rattle.std.proofs.Common.{◌≡◌, ℕ, ◌+◌, ◌-◌, ◌<◌, ◌≤◌, Bool, true, false, List, [], ◌∷◌, length, take, drop, Some, None, sym, ap, ◌∙◌, refl, arith, eqb, length-drop}
 use Rattle.std.specs.List.{position, position_or_len, slice_split}
 use Rattle.std.proofs.lemmas.Bool.Decides.{nat_tests}
 use Rattle.std.proofs.lemmas.List.{take_all}
 use Rattle.std.proofs.lemmas.List.Sums.{fails_before_first}
 use Rattle.std.proofs.lemmas.List.Splits.{slice_split_first, slice_split_none}
 use Rattle.std.specs.List as std
+use Rattle.fab_base.proofs.Options.{picked, passed_over}
 use Rattle.fab_model.specs.Words.{pieces_at, onto_first}
 
 same_front : (x : ℕ) (pieces : List (List ℕ)) → std.onto_first x pieces ≡ onto_first x pieces
@@ -19,14 +20,6 @@ split_step c x xs false e ih = rw (e, pieces_at) (ap (onto_first x) ih ∙ sym (
 pub same_split : (c : ℕ) (xs : List ℕ) → pieces_at c xs ≡ slice_split (λ y. eqb y c) xs
 same_split c [] = refl
 same_split c (x ∷ xs) = split_step c x xs (eqb x c) refl (same_split c xs)
-
-picked : (b : Bool) (m i : ℕ) → cond b (Some m) None ≡ Some i → (b ≡ true) × (m ≡ i)
-picked true m i e = (refl, cc)
-picked false m i e = cc
-
-passed_over : (b : Bool) (m : ℕ) → cond b (Some m) None ≡ None → b ≡ false
-passed_over true m e = cc
-passed_over false m e = refl
 
 -- the pieces, where the cut is given by its place
 pub pieces_some : (c : ℕ) (xs : List ℕ) (i : ℕ) → position (λ y. eqb y c) xs ≡ Some i → pieces_at c xs ≡ take i xs ∷ pieces_at c (take (length xs - (i + 1)) (drop (i + 1) xs))

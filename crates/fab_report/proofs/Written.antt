@@ -1,6 +1,6 @@
 -- The report of a lawful schedule tells this schedule to the strict reader.
 --     Written peers lines schedule      lines that are read back, of which those that begin with `trace` tell this schedule
-use Rattle.std.proofs.Common.{◌≡◌, ◌≢◌, ◌≤◌, ◌<◌, ◌+◌, ◌-◌, ◌*◌, ◌/◌, ◌%◌, ◌^◌, ℕ, Bool, true, false, not, ◌&&◌, List, [], ◌∷◌, ◌++◌, map, All, length, take, drop, Option, Some, None, refl, sym, ap, subst, ◌∙◌, arith, append_assoc, append-nil, codes, decimal, eqb, slice_get, length-append}
+use Rattle.std.proofs.Common.{◌≡◌, ◌≢◌, ◌≤◌, ◌<◌, ◌+◌, ◌-◌, ◌/◌, ◌%◌, ◌^◌, ℕ, Bool, true, false, not, ◌&&◌, List, [], ◌∷◌, ◌++◌, map, All, length, take, drop, Option, Some, None, refl, sym, ap, subst, ◌∙◌, arith, append_assoc, append-nil, codes, decimal, eqb, slice_get, length-append}
 use Rattle.std.specs.Prelude.{nat_lt}
 use Rattle.std.specs.List.{join_with_byte, list_all}
 use Rattle.std.proofs.lemmas.Bool.{and_parts, and_from, eq-eqb, ne_eqb, lt-ltb, ltb-true}
@@ -8,21 +8,22 @@ use Rattle.std.proofs.lemmas.Fmt.{decimal_by_steps_wide}
 use Rattle.std.proofs.lemmas.List.Elements.{All-head, All-tail}
 use Rattle.std.proofs.lemmas.List.Folds.{list_all-append}
 use Rattle.std.proofs.lemmas.List.{map-append}
-use Rattle.std.proofs.lemmas.List.Sums.{fold-append}
 use Rattle.fab_base.specs.declared.entries.Kept.{Kept}
 use Rattle.fab_base.specs.declared.peers.LineResult.{LineResult}
 use Rattle.fab_base.specs.declared.peers.Step.{Step}
 use Rattle.fab_base.specs.declared.peers.Step.TheVariants.{Do, Head, Tail, Sent, Draw, Read, Final}
 use Rattle.fab_base.specs.declared.script.Bound.{Bound}
 use Rattle.fab_base.specs.declared.script.Line.{Line}
+use Rattle.fab_base.proofs.Bools.{not_true as differs}
 use Rattle.fab_model.specs.Laws.{named_peer, NamesBelow}
 use Rattle.fab_model.specs.Peers.{Actor}
 use Rattle.fab_model.specs.Replay.{Lawful, replayed, all_done}
 use Rattle.fab_model.specs.Report.{kept_words, done_lines, stuck_line, amount_line, pending_of, deferred_of, step_word, peer_lines, first_line, last_line, actor_lines, all_lines, report_lines, report_of, report, numbered}
 use Rattle.fab_model.specs.Words.{Word, read_decimal, pieces_at, onto_first, text_of}
 use Rattle.fab_model.proofs.Names.{lawful_names, replayed_sound}
-use Rattle.fab_model.proofs.Pieces.{plain, readable}
+use Rattle.fab_model.proofs.Pieces.{plain, readable, words_back as words-back}
 use Rattle.fab_model.proofs.Plain.{other, decimal_digits, plain_decimal, plain_steps, other_line, other_numbered, others_done, others_stuck, others_left, others_amount}
+use Rattle.fab_model.proofs.Told.{read_push as read-push}
 use Rattle.fab_report.specs.Reading.{is_digit, is_numeral, names_peer, step_told, steps_told, steps_behind, begins_trace, lists_told, schedule_told}
 
 -- ---- numbers
@@ -50,9 +51,6 @@ digits-low n low = record {
 first-of : (ds xs : List ℕ) → 0 < length ds → take 1 (ds ++ xs) ≡ take 1 ds
 first-of [] xs some = absurd (omega (arith, some))
 first-of (d ∷ ds) xs some = refl
-
-read-push : (ds : List ℕ) (d : ℕ) → read_decimal (ds ++ d ∷ []) ≡ read_decimal ds * 10 + (d - 48)
-read-push ds d = fold-append (λ n digit. n * 10 + (digit - 48)) 0 ds (d ∷ [])
 
 digits-more : (n : ℕ) (ds : List ℕ) → 10 ≤ n → Digits (n / 10) ds → Digits n (ds ++ ((48 + n % 10) ∷ []))
 digits-more n ds high ih = record {
@@ -110,17 +108,9 @@ steps-written peers (step ∷ steps) few below =
 abbrev lacks : ℕ → List ℕ → Bool
 lacks c bytes = list_all (λ b. not (eqb b c)) bytes
 
-differs : (b : Bool) → not b ≡ true → b ≡ false
-differs true e = sym e
-differs false e = refl
-
 piece-before : (c : ℕ) (xs ys : List ℕ) → lacks c xs ≡ true → pieces_at c (xs ++ c ∷ ys) ≡ xs ∷ pieces_at c ys
 piece-before c [] ys none = rw (pieces_at, eq-eqb c c refl) refl
 piece-before c (x ∷ xs) ys none = let b = and_parts _ _ none in rw (pieces_at, differs (eqb x c) b.0) (ap (onto_first x) (piece-before c xs ys b.1))
-
-piece-last : (c : ℕ) (xs : List ℕ) → lacks c xs ≡ true → pieces_at c xs ≡ xs ∷ []
-piece-last c [] none = refl
-piece-last c (x ∷ xs) none = let b = and_parts _ _ none in rw (pieces_at, differs (eqb x c) b.0) (ap (onto_first x) (piece-last c xs b.1))
 
 plain-lacks : (c : ℕ) (word : Word) → c ≤ 32 → plain word ≡ true → lacks c word ≡ true
 plain-lacks c [] low p = refl
@@ -129,12 +119,6 @@ plain-lacks c (b ∷ word) low p =
     let above : 32 < b = ltb-true 32 b parts.0 in
     let no : eqb b c ≡ false = ne_eqb b c (λ e. omega arith) in
     rw no (plain-lacks c word low parts.1)
-
-words-back : (word : Word) (words : List Word) → plain word ≡ true → list_all plain words ≡ true → pieces_at 32 (join_with_byte 32 (word ∷ words)) ≡ word ∷ words
-words-back word [] p ps = piece-last 32 word (plain-lacks 32 word (omega arith) p)
-words-back word (next ∷ words) p ps =
-    let parts = and_parts _ _ ps in
-    piece-before 32 word (join_with_byte 32 (next ∷ words)) (plain-lacks 32 word (omega arith) p) ∙ ap (λ ws. word ∷ ws) (words-back next words parts.0 parts.1)
 
 line-lacks : (word : Word) (words : List Word) → plain word ≡ true → list_all plain words ≡ true → lacks 10 (join_with_byte 32 (word ∷ words)) ≡ true
 line-lacks word [] p ps = plain-lacks 10 word (omega arith) p

@@ -8,26 +8,27 @@ use Rattle.fab_base.specs.Counts.{Rose}
 use Rattle.fab_base.specs.declared.frames.FrameHead.{FrameHead}
 use Rattle.fab_base.specs.declared.frames.Frame.{Frame}
 use Rattle.fab_base.specs.declared.frames.FrameRef.{FrameRef}
-use Rattle.fab_wire.specs.declared.moves.Move.{Move}
-use Rattle.fab_wire.specs.declared.moves.Move.TheVariants.{Post}
-use Rattle.fab_wire.specs.Frames.{frame, lent_frame, last_head, MayCome}
+use Rattle.fab_link.specs.declared.moves.Move.{Move}
+use Rattle.fab_link.specs.declared.moves.Move.TheVariants.{Post}
+use Rattle.fab_link.specs.Frames.{frame, lent_frame, last_head, MayCome}
 use Rattle.fab_link.specs.declared.port.PostRefused.{PostRefused}
 use Rattle.fab_link.specs.declared.port.PostRefused.TheVariants.{LaneFull, PoolFull, NoMemory}
 use Rattle.fab_link.specs.Meaning.{Outgoing, Incoming, Noticed, GrewBy, Gives, Fronted, advanced}
 use Rattle.fab_link.specs.Plain.{lent_frames}
-use Rattle.fab_table.specs.declared.kinds.TheConstants.{INLINE_BYTES}
+use Rattle.fab_base.specs.declared.limits.TheConstants.{INLINE_BYTES}
 use Rattle.fab_table.specs.declared.kinds.Sent.{Sent}
 use Rattle.fab_table.specs.declared.kinds.Out.{Out}
 use Rattle.fab_table.specs.declared.kinds.In.{In}
 use Rattle.fab_table.specs.declared.kinds.Part.{Part}
-use Rattle.fab_table.specs.Views.{frame_of, frames_of, least, new_out, new_in, out_at, in_at, with_out, with_in, saw_full, saw_room, posted_one, saw_empty, saw_frame, taken_one}
+use Rattle.fab_table.specs.declared.lane_table.PeerSeat.{PeerSeat}
+use Rattle.fab_table.specs.Views.{frame_of, frames_of, least, new_out, new_in, part_at, out_at, in_at, with_out, with_in, saw_full, saw_room, posted_one, saw_empty, saw_frame, taken_one}
 use Rattle.fab_table.specs.Rule.{greatest}
 use Rattle.fab_table.specs.Plays.{most}
 use Rattle.fab_ring.specs.Tries.{raised, IsTried, IsSent, tried_out, sent_as}
 use Rattle.fab_ring.specs.Hands.{Comes}
 use Rattle.fab_ring.specs.declared.port.RingPort.{RingPort}
-use Rattle.fab_ring.specs.Ports.{outgoing, incoming, frame_in, one_more, slot_of, slots_of, part_of, moves_of, SamePort}
-use Rattle.fab_ring.specs.Looks.{Looked}
+use Rattle.fab_ring.specs.Ports.{outgoing, incoming, frame_in, one_more, slot_of, slots_of, part_of, number_of, moves_of, SamePort}
+use Rattle.fab_ring.specs.Looks.{Looked, SawAllTaken}
 use Rattle.fab_table.proofs.Orders.{greatest_more}
 use Rattle.fab_ring.proofs.Ends.{least_all}
 use Rattle.fab_ring.proofs.Trying.{one_up, raised_once}
@@ -328,9 +329,38 @@ pub frame_opened : (o : Option Sent) → IsSome (frame_in o) → (x : Sent) × (
 frame_opened None e = absurd (cc)
 frame_opened (Some x) e = (x, refl)
 
+closed_by : (o o' : Option Sent) → (IsSome o → o' ≡ o) → o' ≡ None → o ≡ None
+closed_by None o' same e = refl
+closed_by (Some x) o' same e = sym (same refl) ∙ e
+
+shut : (o : Option Sent) → None ≡ frame_in o → o ≡ None
+shut None e = refl
+shut (Some x) e = absurd (none-some x.frame e)
+
+-- no frame lies open after a look that gave none, nor before it
+saw_by : (q n : RingPort) (s : ℕ) (result : Option FrameRef) → (IsSome (in_at (part_of q) s).opened → n.seat ≡ q.seat) → lent_frames result ≡ (incoming (in_at (part_of n) s)).lent
+    → ((in_at (part_of q) s).opened ≡ None → (in_at (part_of n) s).opened ≡ None → SawAllTaken q n s) → IfNone result (SawAllTaken q n s)
+saw_by q n s None again lent saw = let shut_now : (in_at (part_of n) s).opened ≡ None = shut (in_at (part_of n) s).opened lent in
+    saw (closed_by (in_at (part_of q) s).opened (in_at (part_of n) s).opened (λ l. ap (λ (t : PeerSeat). (in_at (part_at t.seat.me.0 0) s).opened) (again l)) shut_now) shut_now
+saw_by q n s (Some f) again lent saw = tt
+
+-- what a look at the port's own lane saw posted is what it posted
+own_lane : (q n : RingPort) (s : ℕ) → SawAllTaken q n s → s ≡ number_of q → length (frames_of (out_at (part_of q) s).posted) ≡ length (frames_of (in_at (part_of q) s).taken)
+own_lane q n s saw is =
+    let known : Part = part_at saw.seat.0 0 in
+    let mine : known.me ≡ s = ap (λ (z : Part). z.me) saw.knew ∙ q.fits.me_is ∙ sym is in
+    let shown : saw.shown ≡ length (out_at known known.me).posted = saw.step.3 0 (let one = saw.alone in omega arith) mine in
+    sym (frames_length (out_at (part_of q) s).posted) ∙ ap (λ (z : Part). length (out_at z s).posted) (sym saw.knew) ∙ ap (λ (z : ℕ). length (out_at known z).posted) (sym mine)
+    ∙ sym shown ∙ saw.all ∙ frames_length (in_at (part_of q) s).taken
+
+own_by : (q n : RingPort) (s : ℕ) (result : Option FrameRef) → IfNone result (SawAllTaken q n s) → result ≡ None → s ≡ number_of q → length (frames_of (out_at (part_of q) s).posted) ≡ length (frames_of (in_at (part_of q) s).taken)
+own_by q n s None saw e is = own_lane q n s saw is
+own_by q n s (Some f) saw e is = absurd (none-some f (sym e))
+
 -- the same, of the ports whose parts these are
-pub looking : (q n : RingPort) (s : ℕ) (result : Option FrameRef) → SamePort q n → (IsSome (in_at (part_of q) s).opened → n.seat ≡ q.seat) → Fronting (part_of q) (part_of n) s result → Looked q n s result
-looking q n s result same again all = record {
+pub looking : (q n : RingPort) (s : ℕ) (result : Option FrameRef) → SamePort q n → (IsSome (in_at (part_of q) s).opened → n.seat ≡ q.seat) → lent_frames result ≡ (incoming (in_at (part_of n) s)).lent
+    → ((in_at (part_of q) s).opened ≡ None → (in_at (part_of n) s).opened ≡ None → SawAllTaken q n s) → Fronting (part_of q) (part_of n) s result → Looked q n s result
+looking q n s result same again lent saw all = let seen = saw_by q n s result again lent saw in record {
   fronted = all.fronted;
   others = all.others;
   outgoing = all.out;
@@ -338,6 +368,8 @@ looking q n s result same again all = record {
   peers = ap (λ t. t.peers) same.0;
   home = same.0;
   moves = same_Some (moves_of n) (moves_of q) all.moves;
+  saw = seen;
+  own = own_by q n s result seen;
   one_look = all.one_look;
   no_look = all.no_look;
   again = λ l. again (subst IsSome (sym (frame_opened (in_at (part_of q) s).opened l).1) refl);

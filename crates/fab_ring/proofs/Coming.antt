@@ -1,5 +1,5 @@
 -- What was inside the lanes came to the plain ports.
-use Rattle.std.proofs.Common.{◌≡◌, ℕ, ◌+◌, ◌<◌, ◌≢◌, List, [], ◌∷◌, ◌++◌, length, get_or, sym, ap, ◌∙◌, subst, arith, length-set, length-append, append_assoc, get_or-set_same, get_or-set_other}
+use Rattle.std.proofs.Common.{◌≡◌, ℕ, ◌+◌, ◌<◌, ◌≢◌, List, [], ◌∷◌, ◌++◌, length, get_or, sym, ap, ◌∙◌, subst, arith, length-set, length-append, append_assoc}
 use mathlib.Core.Logic.{dite}
 use mathlib.Core.List.{IsPrefix}
 use native.Mathlib.Decide.{ℕ_discrete}
@@ -7,10 +7,11 @@ use Rattle.std.specs.Prelude.{Option, Some, None, slice_get, slice_index_or}
 use Rattle.std.proofs.Math.ListN.{get_or-append}
 use Rattle.fab_base.specs.declared.frames.FrameHead.{FrameHead}
 use Rattle.fab_base.specs.declared.frames.Frame.{Frame}
-use Rattle.fab_wire.specs.Frames.{last_head, MayCome, IsLane}
-use Rattle.fab_wire.proofs.Lanes.{IsLane-push}
-use Rattle.fab_link.specs.Plain.{Plain, Lane, lane_at, with_lane, fresh_lane}
-use Rattle.fab_table.specs.declared.fabric.PeerSeat.{PeerSeat}
+use Rattle.fab_link.specs.Frames.{last_head, MayCome, IsLane}
+use Rattle.fab_link.proofs.Lanes.{IsLane-push, last_head-append, IsLane-append}
+use Rattle.fab_link.specs.Plain.{Plain, Lane, lane_at, with_lane}
+use Rattle.fab_link.proofs.Looks.{other_lane as lane_else, same_lane as lane_here}
+use Rattle.fab_table.specs.declared.lane_table.PeerSeat.{PeerSeat}
 use Rattle.fab_table.specs.declared.kinds.Sent.{Sent}
 use Rattle.fab_table.specs.declared.kinds.Out.{Out}
 use Rattle.fab_table.specs.declared.kinds.Part.{Part}
@@ -19,7 +20,7 @@ use Rattle.fab_table.specs.Seats.{part_of, in_of, out_of}
 use Rattle.fab_ring.specs.declared.rooms.Inside.{Inside}
 use Rattle.fab_ring.specs.Gather.{Grew, AreSpare, Awaits, Leads, AwaitsEach, Emptied, Brought}
 use Rattle.fab_ring.proofs.Releasing.{get_last}
-use Rattle.fab_ring.proofs.Joined.{last_head-append, IsLane-append, frames_append}
+use Rattle.fab_ring.proofs.Joined.{frames_append}
 
 pub spare_front : (xs ys : List (List ℕ)) (y : List ℕ) → ys ≡ xs ++ y ∷ [] → AreSpare ys → AreSpare xs
 spare_front xs ys y is all k low = ap length (sym (get_or-append xs (y ∷ []) [] k low) ∙ ap (λ (l : List (List ℕ)). get_or l k []) (sym is)) ∙ all k (let e = ap length is in let l = length-append xs (y ∷ []) in omega arith)
@@ -49,13 +50,6 @@ emptied_later s t u r e i came k taken outs = record {
 
 pub emptied_from : (s s' t : PeerSeat) (r e : ℕ) (i : Inside) (came : List Frame) → Emptied s' t r e i came → (in_of s' r e).taken ≡ (in_of s r e).taken → Emptied s t r e i came
 emptied_from s s' t r e i came k taken = record { xs = k.xs; came_is = k.came_is; taken = k.taken ∙ ap (λ (l : List Sent). l ++ k.xs) taken; all = k.all }
-
--- a lane of a plain port, with other frames that came
-pub lane_here : (p : Plain) (e : ℕ) (lane : Lane) → e < length p.lanes → lane_at (with_lane p e lane) e ≡ lane
-lane_here p e lane near = get_or-set_same p.lanes e lane (fresh_lane None None) near
-
-pub lane_else : (p : Plain) (e d : ℕ) (lane : Lane) → d ≢ e → lane_at (with_lane p e lane) d ≡ lane_at p d
-lane_else p e d lane ne = get_or-set_other p.lanes e d lane (fresh_lane None None) ne
 
 -- prefixes that lose their last member
 pub prefix_less : {X : Type 0} (xs ys zs : List X) (x : X) → ys ≡ xs ++ x ∷ [] → IsPrefix ys zs → (slice_get zs (length xs) ≡ Some x) × IsPrefix xs zs × (length ys ≡ length xs + 1)

@@ -6,8 +6,8 @@ use Rattle.std.proofs.Math.Seq.{take-append_seam}
 use Rattle.std.proofs.lemmas.Option.{none-some, same_Some}
 use Rattle.std.proofs.lemmas.Bool.{ltb-true, ltb-false}
 use Rattle.atomic_table.specs.Table.{rest, turned}
-use Rattle.fab_wire.specs.declared.moves.Move.{Move}
-use Rattle.fab_wire.specs.declared.moves.Move.TheVariants.{Post}
+use Rattle.fab_link.specs.declared.moves.Move.{Move}
+use Rattle.fab_link.specs.declared.moves.Move.TheVariants.{Post}
 use Rattle.fab_table.specs.declared.kinds.Command.{Command}
 use Rattle.fab_table.specs.declared.kinds.Sent.{Sent}
 use Rattle.fab_table.specs.declared.kinds.Slot.{Slot}

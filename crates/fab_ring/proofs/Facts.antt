@@ -8,7 +8,7 @@ use Rattle.fab_base.specs.declared.frames.Frame.{Frame}
 use Rattle.fab_base.specs.declared.items.ItemHead.{ItemHead}
 use Rattle.fab_base.specs.declared.items.Kind.{Kind}
 use Rattle.fab_base.specs.declared.items.Kind.TheVariants.{Msg, TagMsg, WriteReq, ReadReq, AtomicReq, Reply}
-use Rattle.fab_wire.specs.Frames.{last_head, IsSoundAs, Follows, MayCome}
+use Rattle.fab_link.specs.Frames.{last_head, IsSoundAs, Follows, MayCome}
 use Rattle.fab_table.specs.declared.kinds.Part.{Part}
 use Rattle.fab_table.specs.Views.{frames_of, in_at}
 use Rattle.fab_ring.specs.Hands.{Comes}

@@ -4,13 +4,15 @@ use mathlib.Core.Logic.{dite}
 use mathlib.Core.List.{map-append}
 use native.Mathlib.Decide.{ℕ_discrete, dec_lt}
 use lib.ListN.{length-replicate}
-use Rattle.std.proofs.lemmas.List.{get_or-replicate}
+use Rattle.std.proofs.lemmas.List.{get_or-replicate, get_or_default as get_any}
 use Rattle.std.specs.Prelude.{Option, Some, None}
 use Rattle.std.proofs.lemmas.Option.{none-some}
 use Rattle.std.specs.Option.{is_some}
 use Rattle.atomic_table.specs.Table.{rest, turned}
-use Rattle.fab_wire.specs.declared.moves.Move.{Move}
-use Rattle.fab_wire.specs.declared.moves.Move.TheVariants.{Post, Take}
+use Rattle.std.proofs.lemmas.Bool.{false_from_ne_true as not_true}
+use Rattle.fab_base.proofs.Options.{not_some as nothing, some_there as something}
+use Rattle.fab_link.specs.declared.moves.Move.{Move}
+use Rattle.fab_link.specs.declared.moves.Move.TheVariants.{Post, Take}
 use Rattle.fab_table.specs.declared.kinds.Command.{Command}
 use Rattle.fab_table.specs.declared.kinds.Sent.{Sent}
 use Rattle.fab_table.specs.declared.kinds.Slot.{Slot}
@@ -67,23 +69,6 @@ module _ {X : Type 0} where
   pub behind_same : (h k : ℕ → List X) (n f : ℕ) → ((x : ℕ) → x ≢ f → x < n → h x ≡ k x) → f < n → behind h n f ≡ behind k n f
   unfolding behind
   behind_same h k n f e near = λ i. span_same h k (suc f) (n - suc f) (λ x g l. e x (λ z. omega arith) (omega arith)) i ++ span_same h k 0 f (λ x g l. e x (λ z. omega arith) (omega arith)) i
-
-pub get_any : {A : Type 0} (l : List A) (i : ℕ) (a b : A) → i < length l → get_or l i a ≡ get_or l i b
-get_any [] i a b h = absurd (let no : i < 0 = h in omega arith)
-get_any (x ∷ xs) zero a b h = refl
-get_any (x ∷ xs) (suc i) a b h = get_any xs i a b (omega arith)
-
-not_true : (b : Bool) → (b ≡ true → ⊥) → b ≡ false
-not_true true f = absurd (f refl)
-not_true false f = refl
-
-pub nothing : {A : Type 0} (o : Option A) → is_some o ≡ false → o ≡ None
-nothing None e = refl
-nothing (Some x) e = absurd (true≢false e)
-
-pub something : {A : Type 0} (o : Option A) → is_some o ≡ true → (x : A) × (o ≡ Some x)
-something None e = absurd (true≢false (sym e))
-something (Some x) e = (x, refl)
 
 -- what lies in hand has this shape
 pub cell_first : (hand : List (ℕ × Slot)) (a : ℕ) (more : List (ℕ × ℕ)) → shapes hand ≡ (a, 0) ∷ more → (c : Command) × (hand ≡ (a, Cell c) ∷ rest hand) × (shapes (rest hand) ≡ more)

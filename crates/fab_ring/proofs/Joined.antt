@@ -1,15 +1,12 @@
 -- The seat that speaks for all peers, and what its steps on one lane leave.
-use Rattle.std.proofs.Common.{◌≡◌, ℕ, ◌<◌, ◌≢◌, List, [], ◌∷◌, ◌++◌, length, sym, refl, ap, ◌∙◌, subst, length-set, append_assoc, get_or-set_same, get_or-set_other}
+use Rattle.std.proofs.Common.{◌≡◌, ℕ, ◌<◌, ◌≢◌, List, [], ◌++◌, length, sym, ap, ◌∙◌, subst, length-set, append_assoc, get_or-set_same, get_or-set_other}
 use mathlib.Core.Logic.{dite}
 use mathlib.Core.List.{map-append}
 use native.Mathlib.Decide.{ℕ_discrete}
-use Rattle.std.specs.Prelude.{Option, Some, None}
-use Rattle.fab_base.specs.declared.frames.FrameHead.{FrameHead}
-use Rattle.fab_base.specs.declared.frames.Frame.{Frame}
-use Rattle.fab_wire.specs.declared.moves.Move.{Move}
-use Rattle.fab_wire.specs.Frames.{last_head, IsLane}
-use Rattle.fab_table.specs.declared.fabric.Fabric.{Fabric}
-use Rattle.fab_table.specs.declared.fabric.PeerSeat.{PeerSeat}
+use Rattle.std.specs.Prelude.{None}
+use Rattle.fab_link.specs.declared.moves.Move.{Move}
+use Rattle.fab_table.specs.declared.lane_table.LaneTable.{LaneTable}
+use Rattle.fab_table.specs.declared.lane_table.PeerSeat.{PeerSeat}
 use Rattle.fab_table.specs.declared.kinds.Sent.{Sent}
 use Rattle.fab_table.specs.declared.kinds.In.{In}
 use Rattle.fab_table.specs.declared.kinds.Part.{Part}
@@ -71,7 +68,7 @@ sided_then u v w r e a b = record {
 }
 
 -- the seat goes on speaking for all peers
-pub sided_joined : (f : Fabric) (s t : PeerSeat) (r e : ℕ) → IsJoined f s → t.seat.table_id ≡ s.seat.table_id → carried t ≡ [] → Sided (view_of_seat s) (view_of_seat t) r e → (in_of t r e).opened ≡ None → IsJoined f t
+pub sided_joined : (f : LaneTable) (s t : PeerSeat) (r e : ℕ) → IsJoined f s → t.seat.table_id ≡ s.seat.table_id → carried t ≡ [] → Sided (view_of_seat s) (view_of_seat t) r e → (in_of t r e).opened ≡ None → IsJoined f t
 sided_joined f s t r e j same empty d closed = record {
   of = same ∙ j.of;
   count = d.count ∙ j.count;
@@ -108,15 +105,6 @@ grew_then s t u r e xs ys a b = record {
 -- what was posted stays
 pub grew_outs : (s t : PeerSeat) (r e : ℕ) (xs : List Sent) → Grew s t r e xs → (k : ℕ) → (part_of t k).outs ≡ (part_of s k).outs
 grew_outs s t r e xs g k = dite (ℕ_discrete k r) (λ is. subst (λ (z : ℕ). (part_of t z).outs ≡ (part_of s z).outs) (sym is) g.mine.outs) (λ ne. ap (λ (z : Part). z.outs) (g.rest k ne))
-
--- lanes that go on
-pub last_head-append : (before : Option FrameHead) (xs ys : List Frame) → last_head before (xs ++ ys) ≡ last_head (last_head before xs) ys
-last_head-append before [] ys = refl
-last_head-append before (x ∷ xs) ys = last_head-append (Some x.head) xs ys
-
-pub IsLane-append : (before : Option FrameHead) (xs ys : List Frame) → IsLane before xs → IsLane (last_head before xs) ys → IsLane before (xs ++ ys)
-IsLane-append before [] ys a b = b
-IsLane-append before (x ∷ xs) ys a b = (a.0, IsLane-append (Some x.head) xs ys a.1 b)
 
 pub frames_append : (xs ys : List Sent) → frames_of (xs ++ ys) ≡ frames_of xs ++ frames_of ys
 frames_append xs ys = map-append frame_of xs ys

@@ -3,10 +3,10 @@ use Rattle.std.proofs.Common.{◌≡◌, ℕ, ◌+◌, ◌*◌, ◌<◌, ⊎_eli
 use Rattle.std.specs.Prelude.{Some}
 use Rattle.std.proofs.lemmas.Option.{none-some, same_Some}
 use Rattle.atomic_table.specs.Table.{rest, turned}
-use Rattle.fab_wire.specs.declared.moves.Move.{Move}
-use Rattle.fab_wire.specs.declared.moves.Move.TheVariants.{Take}
-use Rattle.fab_table.specs.declared.fabric.Fabric.{Fabric}
-use Rattle.fab_table.specs.declared.fabric.PeerSeat.{PeerSeat}
+use Rattle.fab_link.specs.declared.moves.Move.{Move}
+use Rattle.fab_link.specs.declared.moves.Move.TheVariants.{Take}
+use Rattle.fab_table.specs.declared.lane_table.LaneTable.{LaneTable}
+use Rattle.fab_table.specs.declared.lane_table.PeerSeat.{PeerSeat}
 use Rattle.fab_table.specs.declared.kinds.Command.{Command}
 use Rattle.fab_table.specs.declared.kinds.Sent.{Sent}
 use Rattle.fab_table.specs.declared.kinds.Slot.{Slot}
@@ -23,7 +23,7 @@ use Rattle.fab_ring.proofs.Ends.{Found, the_filled, the_said}
 use Rattle.fab_ring.proofs.Joined.{Sided, sided, side_part, side_in, sided_then, sided_joined, sided_grew}
 
 -- a frame with a slot is open: the slot comes second
-pub open_pooled : (f : Fabric) (t : PeerSeat) (r e : ℕ) (x : Sent) (y : Slot) (s : ℕ) → IsOpen f t r e x y → x.slot ≡ Some s
+pub open_pooled : (f : LaneTable) (t : PeerSeat) (r e : ℕ) (x : Sent) (y : Slot) (s : ℕ) → IsOpen f t r e x y → x.slot ≡ Some s
     → (b : List ℕ) × (length b ≡ 4096) × (take x.frame.head.len b ≡ x.frame.bytes) × (s < f.peers * f.pool) × ((in_of t r e).lent ≡ true) × (carried t ≡ (oldest_cell (view_of_seat t) r e, y) ∷ (slot_home (view_of_seat t) r s, Pool b) ∷ [])
 open_pooled f t r e x y s o named = ⊎_elim
     (λ h. absurd (none-some s (sym h.0 ∙ named)))
@@ -32,7 +32,7 @@ open_pooled f t r e x y s o named = ⊎_elim
     o.hand
 
 -- the slot's buffer went out for the spare one
-module _ (f : Fabric) (t : PeerSeat) (r e s : ℕ) (x : Sent) (y : Slot) (o : IsOpen f t r e x y) (named : x.slot ≡ Some s) (m₁ : Sat) (turned_is : m₁ ≡ (view_of_seat t, turned (carried t))) (home : ℕ) (home_is : home ≡ slot_home (view_of_seat t) r s) where
+module _ (f : LaneTable) (t : PeerSeat) (r e s : ℕ) (x : Sent) (y : Slot) (o : IsOpen f t r e x y) (named : x.slot ≡ Some s) (m₁ : Sat) (turned_is : m₁ ≡ (view_of_seat t, turned (carried t))) (home : ℕ) (home_is : home ≡ slot_home (view_of_seat t) r s) where
   pub swap_hand : (b : List ℕ) × (m₁.1 ≡ (home, Pool b) ∷ rest m₁.1)
   swap_hand = let h = open_pooled f t r e x y s o named in let now : m₁.1 ≡ (slot_home (view_of_seat t) r s, Pool h.0) ∷ (oldest_cell (view_of_seat t) r e, y) ∷ [] = ap (λ (m : Sat). m.1) turned_is ∙ ap turned h.5 in
       (h.0, now ∙ (λ i. (sym home_is i, Pool h.0) ∷ sym (ap rest now) i))
@@ -46,7 +46,7 @@ found_view m m₁ v a n h x y (inl k) = ap (λ (z : Sat). z.0) k.1
 found_view m m₁ v a n h x y (inr k) = ap (λ (z : Sat). z.0) k.5
 
 -- what the looks of a joined seat leave
-module _ (f : Fabric) (s t : PeerSeat) (r e res : ℕ) (x : Sent) (y : Slot) (j : IsJoined f s) (low : r < f.peers) (below : e < f.peers) (same : t.seat.table_id ≡ s.seat.table_id)
+module _ (f : LaneTable) (s t : PeerSeat) (r e res : ℕ) (x : Sent) (y : Slot) (j : IsJoined f s) (low : r < f.peers) (below : e < f.peers) (same : t.seat.table_id ≡ s.seat.table_id)
     (opens : Opens (in_of s r e) x y)
     (found : Found (sat s) (sat t) (new_in_view (view_of_seat s) r e (saw_frame (in_of s r e) res x)) (oldest_cell (view_of_seat s) r e) (slot_home (view_of_seat s) r) ((part_of s r).peers * (part_of s r).pool) x y) where
   abbrev u : In

@@ -3,7 +3,7 @@ use Rattle.std.proofs.Common.{◌≡◌, ℕ, zero, suc, List, [], ◌∷◌, �
 use Rattle.std.specs.Prelude.{Some, slice_get}
 use Rattle.std.proofs.lemmas.Option.{none-some, same_Some}
 use Rattle.fab_link.specs.Meaning.{AreFresh}
-use Rattle.fab_table.specs.declared.fabric.Fabric.{Fabric}
+use Rattle.fab_table.specs.declared.lane_table.LaneTable.{LaneTable}
 use Rattle.fab_table.specs.declared.kinds.Out.{Out}
 use Rattle.fab_table.specs.declared.kinds.In.{In}
 use Rattle.fab_table.specs.declared.kinds.Part.{Part}
@@ -40,7 +40,7 @@ fresh_new n room pool me d = let here : in_at (new_part n room pool me) d ≡ ne
   empty_seen = ap (λ (z : In). z.empty_seen) here;
 }
 
-pub made_all : (f : Fabric) (ports : List RingPort) → length ports ≡ f.peers → ((k : ℕ) (p : RingPort) → slice_get ports k ≡ Some p → IsMade f k p) → AreMade f.peers f.room f.pool f ports
+pub made_all : (f : LaneTable) (ports : List RingPort) → length ports ≡ f.peers → ((k : ℕ) (p : RingPort) → slice_get ports k ≡ Some p → IsMade f k p) → AreMade f.peers f.room f.pool f ports
 made_all f ports count each = record {
   count = count;
   numbers = λ k p e. (each k p e).0;

@@ -6,11 +6,12 @@ use native.Mathlib.Decide.{ℕ_discrete}
 use Rattle.std.specs.Prelude.{Option, Some, None, slice_get, option_to_list}
 use Rattle.std.proofs.lemmas.Option.{same_Some, slice_get_within}
 use Rattle.std.specs.Arc.{arc_value}
-use Rattle.fab_wire.specs.declared.moves.Move.{Move}
-use Rattle.fab_wire.specs.declared.moves.Move.TheVariants.{Take}
-use Rattle.fab_wire.specs.Merged.{posts_to}
-use Rattle.fab_table.specs.declared.fabric.Fabric.{Fabric}
-use Rattle.fab_table.specs.declared.fabric.PeerSeat.{PeerSeat}
+use Rattle.fab_base.proofs.Lists.{get_some}
+use Rattle.fab_link.specs.declared.moves.Move.{Move}
+use Rattle.fab_link.specs.declared.moves.Move.TheVariants.{Take}
+use Rattle.fab_link.specs.Merged.{posts_to}
+use Rattle.fab_table.specs.declared.lane_table.LaneTable.{LaneTable}
+use Rattle.fab_table.specs.declared.lane_table.PeerSeat.{PeerSeat}
 use Rattle.fab_table.specs.declared.kinds.Sent.{Sent}
 use Rattle.fab_table.specs.declared.kinds.Slot.{Slot}
 use Rattle.fab_table.specs.declared.kinds.In.{In}
@@ -136,7 +137,7 @@ joining_more ports n v w p there one r j = record {
       (subst (Released (part_of q)) (sym (get_behind v.parts w.parts (k - (n + 1)) (new_part 0 0 0 0) one)) (j.parts k q (omega arith) at)));
 }
 
-pub part_stands : (f : Fabric) (k : ℕ) (p : RingPort) (q : Part) → arc_value p.fabric ≡ f → p.me ≡ k → Released (part_of p) q → IsPartOf f k q
+pub part_stands : (f : LaneTable) (k : ℕ) (p : RingPort) (q : Part) → arc_value p.fabric ≡ f → p.me ≡ k → Released (part_of p) q → IsPartOf f k q
 part_stands f k p q is me r = let t = p.fits in record {
   me = r.me ∙ t.me_is ∙ me;
   peers = r.peers ∙ t.peers_is ∙ ap (λ z. z.peers) is;
@@ -147,15 +148,10 @@ part_stands f k p q is me r = let t = p.fits in record {
   closed = r.closed;
 }
 
-pub get_some : {X : Type 0} (xs : List X) (k : ℕ) → k < length xs → (x : X) × (slice_get xs k ≡ Some x)
-get_some [] k h = absurd (let no : k < 0 = h in omega arith)
-get_some (x ∷ xs) zero h = (x, refl)
-get_some (x ∷ xs) (suc k) h = get_some xs k (omega arith)
-
 less_none : (k : ℕ) → k - 0 ≡ k
 less_none k = omega arith
 
-pub whole_joined : (f : Fabric) (ports : List RingPort) (t : PeerSeat) → AreAll f ports → IsOf f t → carried t ≡ [] → Joining ports 0 (view_of_seat t) → IsWhole f ports t
+pub whole_joined : (f : LaneTable) (ports : List RingPort) (t : PeerSeat) → AreAll f ports → IsOf f t → carried t ≡ [] → Joining ports 0 (view_of_seat t) → IsWhole f ports t
 whole_joined f ports t a of hand j = record {
   joined = record {
     of = of;

@@ -4,9 +4,9 @@ use lib.ListN.{length-replicate}
 use mathlib.Core.Logic.{dite}
 use native.Mathlib.Decide.{ℕ_discrete}
 use Rattle.std.proofs.Math.Nat.{zero-mod}
+use Rattle.std.proofs.lemmas.List.{get_or_default as get_any}
 use Rattle.fab_table.proofs.Seating.{same_all}
 use Rattle.fab_ring.specs.Hands.{Rounds}
-use Rattle.fab_ring.proofs.Hold.{get_any}
 
 -- where a lane's cell lies
 pub cell_small : (n room s me cell : ℕ) → n ≤ 64 → room ≤ 1024 → s < n → me < n → cell < room → (s * n + me) * room + cell < 18446744073709551616

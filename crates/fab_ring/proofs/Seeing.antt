@@ -1,8 +1,8 @@
 -- What stays of the counts of frames that were seen given back.
 use Rattle.std.proofs.Common.{◌≡◌, ℕ, ◌<◌, ◌≤◌, List, length, get_or, set, replicate, sym, ap, ◌∙◌, subst, le_refl, length-set, get_or-set_same, get_or-set_other}
 use lib.ListN.{length-replicate}
-use Rattle.std.proofs.lemmas.List.{get_or-replicate}
-use Rattle.fab_wire.specs.declared.moves.Move.{Move}
+use Rattle.std.proofs.lemmas.List.{get_or-replicate, get_or_default as get_any}
+use Rattle.fab_link.specs.declared.moves.Move.{Move}
 use Rattle.fab_table.specs.declared.kinds.Out.{Out}
 use Rattle.fab_table.specs.declared.kinds.In.{In}
 use Rattle.fab_table.specs.declared.kinds.Part.{Part}
@@ -10,7 +10,6 @@ use Rattle.fab_table.specs.Views.{new_part, new_out, out_at, with_out, with_in}
 use Rattle.fab_table.proofs.Rows.{each_set}
 use Rattle.fab_table.proofs.Seating.{same_all}
 use Rattle.fab_ring.specs.Hands.{Sees}
-use Rattle.fab_ring.proofs.Hold.{get_any}
 
 module _ (peers : ℕ) (seen : List ℕ) (p : Part) (k : Sees peers seen p) where
   pub seen_at : (d n : ℕ) → d < peers → n ≡ get_or seen d n → n ≡ (out_at p d).got_seen

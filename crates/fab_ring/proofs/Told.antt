@@ -1,12 +1,13 @@
 -- What stays of what a port keeps of its open frames.
-use Rattle.std.proofs.Common.{◌≡◌, ℕ, zero, suc, ◌<◌, ◌≢◌, List, [], ◌∷◌, length, get_or, set, sym, refl, ap, ◌∙◌, subst, length-set, get_or-set_same, get_or-set_other}
+use Rattle.std.proofs.Common.{◌≡◌, ℕ, ◌<◌, List, [], length, get_or, set, sym, ap, ◌∙◌, subst, length-set, get_or-set_same, get_or-set_other}
 use mathlib.Core.Logic.{dite}
 use native.Mathlib.Decide.{ℕ_discrete}
-use Rattle.std.specs.Prelude.{Option, Some, None, slice_get, IsSome}
+use Rattle.std.specs.Prelude.{Some, None, slice_get}
 use Rattle.std.proofs.Math.Logic.{∥∥₁_map}
-use Rattle.std.proofs.lemmas.Option.{none-some, same_Some}
-use Rattle.fab_wire.specs.declared.moves.Move.{Move}
-use Rattle.fab_wire.specs.Frames.{last_head, MayCome}
+use Rattle.std.proofs.lemmas.Option.{none-some}
+use Rattle.fab_base.proofs.Lists.{get_set_same, get_set_other}
+use Rattle.fab_link.specs.declared.moves.Move.{Move}
+use Rattle.fab_link.specs.Frames.{last_head, MayCome}
 use Rattle.fab_table.specs.declared.kinds.Command.{Command}
 use Rattle.fab_table.specs.declared.kinds.Sent.{Sent}
 use Rattle.fab_table.specs.declared.kinds.Out.{Out}
@@ -15,19 +16,6 @@ use Rattle.fab_table.specs.declared.kinds.Part.{Part}
 use Rattle.fab_table.specs.Views.{frames_of, new_part, new_in, in_at, with_out, with_in}
 use Rattle.fab_table.proofs.Seating.{same_all}
 use Rattle.fab_ring.specs.Hands.{Tells, Told, Comes}
-
-module _ {X : Type 0} where
-  pub get_set_same : (xs : List X) (i : ℕ) (x y : X) → slice_get (set xs i x) i ≡ Some y → x ≡ y
-  get_set_same [] i x y e = absurd (none-some y e)
-  get_set_same (z ∷ zs) zero x y e = same_Some x y e
-  get_set_same (z ∷ zs) (suc i) x y e = get_set_same zs i x y e
-
-  pub get_set_other : (xs : List X) (i j : ℕ) (x : X) → j ≢ i → slice_get (set xs i x) j ≡ slice_get xs j
-  get_set_other [] i j x ne = refl
-  get_set_other (z ∷ zs) zero zero x ne = absurd (ne refl)
-  get_set_other (z ∷ zs) zero (suc j) x ne = refl
-  get_set_other (z ∷ zs) (suc i) zero x ne = refl
-  get_set_other (z ∷ zs) (suc i) (suc j) x ne = get_set_other zs i j x (λ e. ne (ap suc e))
 
 pub told_out : (peers : ℕ) (cs : List Command) (bs : List (List ℕ)) (p : Part) (d : ℕ) (o : Out) (ms : List Move) → Told peers cs bs p → Told peers cs bs (with_out p d o ms)
 told_out peers cs bs p d o ms t = record { all_commands = t.all_commands; all_buffers = t.all_buffers; sizes = t.sizes; says = t.says }
@@ -69,7 +57,3 @@ comes_in p s u ms near mine k e x opened = let here = get_or-set_same p.ins s u 
     (λ is. subst (λ (z : ℕ). MayCome (last_head None (frames_of (in_at (with_in p s u ms) z).taken)) x.frame) (sym is)
     (subst (λ (z : In). MayCome (last_head None (frames_of z.taken)) x.frame) (sym here) (mine x (sym (ap (λ (z : In). z.opened) here) ∙ subst (λ (z : ℕ). (in_at (with_in p s u ms) z).opened ≡ Some x) is opened))))
     (λ ne. let there = get_or-set_other p.ins s e u new_in ne in subst (λ (z : In). MayCome (last_head None (frames_of z.taken)) x.frame) (sym there) (k e x (sym (ap (λ (z : In). z.opened) there) ∙ opened)))
-
-pub opened_is : {X : Type 0} (o : Option X) → IsSome o → (x : X) × (o ≡ Some x)
-opened_is None e = absurd (cc)
-opened_is (Some x) e = (x, refl)

@@ -7,8 +7,8 @@ use Rattle.fab_table.specs.declared.kinds.Slot.TheVariants.{Cell, Pool}
 use Rattle.fab_table.specs.declared.kinds.Out.{Out}
 use Rattle.fab_table.specs.declared.kinds.Part.{Part}
 use Rattle.fab_table.specs.declared.kinds.View.{View}
-use Rattle.fab_table.specs.declared.fabric.Fabric.{Fabric}
-use Rattle.fab_table.specs.declared.fabric.PeerSeat.{PeerSeat}
+use Rattle.fab_table.specs.declared.lane_table.LaneTable.{LaneTable}
+use Rattle.fab_table.specs.declared.lane_table.PeerSeat.{PeerSeat}
 use Rattle.fab_table.specs.Views.{least, part_at, out_at, with_out, tried_more}
 use Rattle.fab_table.specs.Plays.{Sat, new_out_view, slot_home}
 use Rattle.fab_table.specs.Seats.{IsSame, sat, carried, view_of_seat, named}
@@ -120,7 +120,7 @@ pub tried_round : (o : Out) (a n : ℕ) (ts us : List ℕ) (f g : ℕ) (w : Bool
 tried_round o a n ts us f g w t u le = (u.0 ∙ ap (raised a) t.0 ∙ round a n o.tried le, counts_join o ts us f g w t.1 u.1)
 
 -- the seat after tries that found each slot taken
-module _ (f : Fabric) (s t : PeerSeat) (me d place : ℕ) (a : IsAlone f s me) (near : d < f.peers) (ts : List ℕ) (g : ℕ) (c : Command) (same : IsSame s t)
+module _ (f : LaneTable) (s t : PeerSeat) (me d place : ℕ) (a : IsAlone f s me) (near : d < f.peers) (ts : List ℕ) (g : ℕ) (c : Command) (same : IsSame s t)
     (is : sat t ≡ (new_out_view (view_of_seat s) 0 d (tried_out (out_at (part_at (view_of_seat s) 0) d) ts g (out_at (part_at (view_of_seat s) 0) d).writing None), (place, Cell c) ∷ rest (carried s))) where
   abbrev v : View
   v = view_of_seat s

@@ -10,17 +10,19 @@ use Rattle.std.proofs.lemmas.List.Elements.{All-from_get_or}
 use Rattle.std.proofs.lemmas.Option.{none-some, same_Some, slice_get_within}
 use Rattle.fab_base.specs.declared.frames.FrameHead.{FrameHead}
 use Rattle.fab_base.specs.declared.frames.Frame.{Frame}
-use Rattle.fab_wire.specs.declared.moves.Move.{Move}
-use Rattle.fab_wire.specs.declared.moves.Move.TheVariants.{Post, Take}
-use Rattle.fab_wire.specs.Frames.{last_head, MayCome, IsLane}
-use Rattle.fab_wire.specs.Merged.{IsStampedAbove, IsStamped, posts_to, takes_of, merges}
-use Rattle.fab_wire.specs.Owing.{IsOwed}
-use Rattle.fab_wire.proofs.Merging.{stamped_merge}
+use Rattle.fab_base.proofs.Lists.{get_some, prefix_then}
+use Rattle.fab_link.specs.declared.moves.Move.{Move}
+use Rattle.fab_link.specs.declared.moves.Move.TheVariants.{Post, Take}
+use Rattle.fab_link.specs.Frames.{last_head, MayCome, IsLane}
+use Rattle.fab_link.specs.Merged.{IsStampedAbove, IsStamped, posts_to, takes_of, merges}
+use Rattle.fab_link.specs.Owing.{IsOwed}
+use Rattle.fab_link.proofs.Merging.{stamped_merge}
+use Rattle.fab_link.proofs.Lanes.{last_head-append}
 use Rattle.fab_link.specs.Meaning.{AreFresh, Incoming}
 use Rattle.fab_link.specs.Plain as plain
 use Rattle.fab_link.specs.Plain.{Plain, Lane, lane_at, fresh_lane}
-use Rattle.fab_table.specs.declared.fabric.Fabric.{Fabric}
-use Rattle.fab_table.specs.declared.fabric.PeerSeat.{PeerSeat}
+use Rattle.fab_table.specs.declared.lane_table.LaneTable.{LaneTable}
+use Rattle.fab_table.specs.declared.lane_table.PeerSeat.{PeerSeat}
 use Rattle.fab_table.specs.declared.kinds.Sent.{Sent}
 use Rattle.fab_table.specs.declared.kinds.Out.{Out}
 use Rattle.fab_table.specs.declared.kinds.In.{In}
@@ -35,14 +37,13 @@ use Rattle.fab_ring.specs.Ports.{frame_in, incoming, part_of, moves_of}
 use Rattle.fab_ring.specs.Gather.{AreAll, AreOwed, GoesOn, Gathered, Released, IsPartOf, IsJoined, IsRoom, AreAllRooms, Succeeds, AreSuccessors, IsWhole, Awaits, Leads, AwaitsAll, Emptied, Brought, ReceivedAll}
 use Rattle.fab_table.proofs.Orders.{takes_append}
 use Rattle.fab_ring.proofs.Facts.{comes_now}
-use Rattle.fab_ring.proofs.Releasing.{get_some}
-use Rattle.fab_ring.proofs.Joined.{last_head-append, frames_append}
+use Rattle.fab_ring.proofs.Joined.{frames_append}
 
 -- between each two parts of the seat what was taken comes first in what was posted
-abbrev pub Fed : Fabric → PeerSeat → Type 0
+abbrev pub Fed : LaneTable → PeerSeat → Type 0
 Fed f t = (a b : ℕ) → a < f.peers → b < f.peers → IsPrefix (seats.in_of t b a).taken (seats.out_of t a b).posted
 
-pub fed : (f : Fabric) (t u : PeerSeat) → IsJoined f t → learned (sat t) (sat u) → Fed f t
+pub fed : (f : LaneTable) (t u : PeerSeat) → IsJoined f t → learned (sat t) (sat u) → Fed f t
 fed f t u j l a b low_a low_b = subst (λ (z : ℕ × ℕ). IsPrefix (seats.in_of t b z.0).taken (seats.out_of t a z.1).posted) (λ i. ((j.each a low_a).me i, (j.each b low_b).me i))
     (l.2 a b (subst (λ (z : ℕ). a < z) (sym j.count) low_a) (subst (λ (z : ℕ). b < z) (sym j.count) low_b))
 
@@ -62,7 +63,7 @@ open_lane before None comes = tt
 open_lane before (Some x) comes = (comes x refl, tt)
 
 -- room that was made for what the ports know is room for what the seat knows
-module _ (f : Fabric) (ports : List RingPort) (t : PeerSeat) (all : AreAll f ports) (whole : IsWhole f ports t) (feeds : Fed f t)
+module _ (f : LaneTable) (ports : List RingPort) (t : PeerSeat) (all : AreAll f ports) (whole : IsWhole f ports t) (feeds : Fed f t)
     (r e : ℕ) (a b : RingPort) (i : Inside) (at_r : slice_get ports r ≡ Some a) (at_e : slice_get ports e ≡ Some b) (room : IsRoom a b i) where
   abbrev low_r : r < f.peers
   low_r = let l = slice_get_within ports r a at_r in let n = all.count in omega arith
@@ -100,7 +101,7 @@ module _ (f : Fabric) (ports : List RingPort) (t : PeerSeat) (all : AreAll f por
         ∙ ap (last_head None) (sym (frames_append (in_at (part_of a) e).taken (option_to_list (in_at (part_of a) e).opened))) ∙ ap (λ (xs : List Sent). last_head None (frames_of xs)) (sym room_taken);
   }
 
-pub all_await : (f : Fabric) (ports : List RingPort) (t : PeerSeat) (ps : List Plain) (ws : List (Vec Inside Global)) → AreAll f ports → IsWhole f ports t → Fed f t → AreSuccessors ports ps → AreAllRooms ports ws → AwaitsAll f t ps ws
+pub all_await : (f : LaneTable) (ports : List RingPort) (t : PeerSeat) (ps : List Plain) (ws : List (Vec Inside Global)) → AreAll f ports → IsWhole f ports t → Fed f t → AreSuccessors ports ps → AreAllRooms ports ws → AwaitsAll f t ps ws
 all_await f ports t ps ws all whole feeds succ rooms = let at : (k : ℕ) → k < length ports → (p : RingPort) × (slice_get ports k ≡ Some p) = get_some ports in record {
   count = rooms.count ∙ all.count;
   ports = succ.count ∙ all.count;
@@ -127,7 +128,7 @@ succeeded s t p q q' rooms k b = let is : (d : ℕ) → lane_at q' d ≡ record 
   in_after = λ d. ap (λ (z : Lane). z.in_after) (b.same d) ∙ k.goes_on.in_after d;
 }
 
-pub all_gathered : (f : Fabric) (ports : List RingPort) (t u : PeerSeat) (ps qs : List Plain) (ws : List (Vec Inside Global)) → AreAll f ports → IsWhole f ports t → Fed f t → Fed f u → AreSuccessors ports ps → AreAllRooms ports ws → ReceivedAll t u ps qs ws → Gathered ports qs
+pub all_gathered : (f : LaneTable) (ports : List RingPort) (t u : PeerSeat) (ps qs : List Plain) (ws : List (Vec Inside Global)) → AreAll f ports → IsWhole f ports t → Fed f t → Fed f u → AreSuccessors ports ps → AreAllRooms ports ws → ReceivedAll t u ps qs ws → Gathered ports qs
 all_gathered f ports t u ps qs ws all whole feeds feeds' succ rooms got = let find : (k : ℕ) (p : RingPort) → slice_get ports k ≡ Some p → (q : Plain) × (w : Vec Inside Global) × (slice_get ps k ≡ Some q) × (slice_get ws k ≡ Some w) = λ k p here.
     (let l = slice_get_within ports k p here in let a = succ.count in let b = rooms.count in let q = get_some ps k (omega arith) in let w = get_some ws k (omega arith) in (q.0, w.0, q.1, w.1)) in record {
       count = got.count ∙ succ.count;
@@ -154,9 +155,6 @@ stamped_front g (Take e k ∷ xs) ys s = stamped_front (max g k) xs ys s
 prefix_map : {A B : Type 0} (g : A → B) (xs ys : List A) → IsPrefix xs ys → IsPrefix (map g xs) (map g ys)
 prefix_map g xs ys p = (map g p.0, sym (map-append g xs p.0) ∙ ap (map g) p.1)
 
-prefix_then : {A : Type 0} (xs ys zs : List A) → IsPrefix xs ys → IsPrefix ys zs → IsPrefix xs zs
-prefix_then {A = A} xs ys zs p q = (p.0 ++ q.0, sym (append_assoc xs p.0 q.0) ∙ ap (λ (z : List A). z ++ q.0) p.1 ∙ q.1)
-
 map_at : (ports : List RingPort) (k : ℕ) (p : RingPort) → slice_get ports k ≡ Some p → get_or (map moves_of ports) k [] ≡ moves_of p
 map_at [] k p e = absurd (none-some p e)
 map_at (x ∷ xs) zero p e = ap moves_of (same_Some x p e)
@@ -175,7 +173,7 @@ advanced_taken : (u : In) (o : Option Sent) → (advanced_by u o).taken ≡ fram
 advanced_taken u None = ap frames_of (sym (append-nil u.taken))
 advanced_taken u (Some x) = sym (map-append frame_of u.taken (x ∷ []))
 
-module _ (f : Fabric) (ports : List RingPort) (t : PeerSeat) (all : AreAll f ports) (whole : IsWhole f ports t) (feeds : Fed f t) (kept : (k : ℕ) → k < f.peers → Kept (seats.part_of t k)) where
+module _ (f : LaneTable) (ports : List RingPort) (t : PeerSeat) (all : AreAll f ports) (whole : IsWhole f ports t) (feeds : Fed f t) (kept : (k : ℕ) → k < f.peers → Kept (seats.part_of t k)) where
   takes_before : (d s : ℕ) (p : RingPort) → slice_get ports d ≡ Some p → IsPrefix (takes_of s (moves_of p)) (takes_of s (seats.part_of t d).moves)
   takes_before d s p here = let m = (whole.parts d p here).moves in (takes_of s m.0, sym (takes_append s (moves_of p) m.0) ∙ ap (takes_of s) m.1)
 
@@ -209,7 +207,7 @@ module _ (f : Fabric) (ports : List RingPort) (t : PeerSeat) (all : AreAll f por
 
 -- ---- the look that tells what holds between the parts leaves the seat
 
-pub whole_same : (f : Fabric) (ports : List RingPort) (t u : PeerSeat) → u.seat.table_id ≡ t.seat.table_id → sat u ≡ sat t → IsWhole f ports t → IsWhole f ports u
+pub whole_same : (f : LaneTable) (ports : List RingPort) (t u : PeerSeat) → u.seat.table_id ≡ t.seat.table_id → sat u ≡ sat t → IsWhole f ports t → IsWhole f ports u
 whole_same f ports t u same is w = record {
   joined = record {
     of = same ∙ w.joined.of;
@@ -220,7 +218,7 @@ whole_same f ports t u same is w = record {
   parts = λ k p here. subst (λ (m : Sat). Released (part_of p) (part_at m.0 k)) (sym is) (w.parts k p here);
 }
 
-pub fed_same : (f : Fabric) (t u : PeerSeat) → sat u ≡ sat t → Fed f t → Fed f u
+pub fed_same : (f : LaneTable) (t u : PeerSeat) → sat u ≡ sat t → Fed f t → Fed f u
 fed_same f t u is feeds a b low_a low_b = subst (λ (m : Sat). IsPrefix (in_at (part_at m.0 b) a).taken (out_at (part_at m.0 a) b).posted) (sym is) (feeds a b low_a low_b)
 
 pub seam : {A : Type 0} (xs ys : List A) → length xs ≡ length ys → take (length ys) (xs ++ drop (length xs) ys) ≡ xs

@@ -1,11 +1,11 @@
 -- A seat that speaks for one peer alone.
 use Rattle.std.specs.Prelude.{◌≡◌, ℕ, ◌<◌, length}
-use Rattle.fab_table.specs.declared.fabric.Fabric.{Fabric}
-use Rattle.fab_table.specs.declared.fabric.PeerSeat.{PeerSeat}
+use Rattle.fab_table.specs.declared.lane_table.LaneTable.{LaneTable}
+use Rattle.fab_table.specs.declared.lane_table.PeerSeat.{PeerSeat}
 use Rattle.fab_table.specs.Views.{part_at}
 use Rattle.fab_table.specs.Seats.{IsOf}
 
-pub record IsAlone (f : Fabric) (s : PeerSeat) (me : ℕ) : Type 0 where
+pub record IsAlone (f : LaneTable) (s : PeerSeat) (me : ℕ) : Type 0 where
   pub of : IsOf f s
   pub one : length s.seat.me.0.parts ≡ 1
   pub me_is : (part_at s.seat.me.0 0).me ≡ me

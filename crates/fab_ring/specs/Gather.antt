@@ -15,13 +15,13 @@ use Rattle.fab_base.specs.declared.limits.TheConstants.{FRAME_BYTES}
 use mathlib.Core.List.{IsPrefix}
 use Rattle.fab_base.specs.declared.frames.FrameHead.{FrameHead}
 use Rattle.fab_base.specs.declared.frames.Frame.{Frame}
-use Rattle.fab_wire.specs.Frames.{last_head, IsLane}
-use Rattle.fab_wire.specs.Merged.{posts_to}
+use Rattle.fab_link.specs.Frames.{last_head, IsLane}
+use Rattle.fab_link.specs.Merged.{posts_to}
 use Rattle.fab_link.specs.Meaning.{AreFresh, Owes, advanced, end_of, taken_end}
 use Rattle.fab_link.specs.Plain as plain
 use Rattle.fab_link.specs.Plain.{Plain, lane_at, fresh_lane}
-use Rattle.fab_table.specs.declared.fabric.Fabric.{Fabric}
-use Rattle.fab_table.specs.declared.fabric.PeerSeat.{PeerSeat}
+use Rattle.fab_table.specs.declared.lane_table.LaneTable.{LaneTable}
+use Rattle.fab_table.specs.declared.lane_table.PeerSeat.{PeerSeat}
 use Rattle.fab_table.specs.declared.kinds.Sent.{Sent}
 use Rattle.fab_table.specs.declared.kinds.Part.{Part}
 use Rattle.fab_table.specs.Views.{frames_of, out_at, in_at}
@@ -35,7 +35,7 @@ use Rattle.fab_ring.specs.declared.rooms.Inside.{Inside}
 use Rattle.fab_ring.specs.Ports.{part_of, number_of, peers_of, table_of, out_of, in_of}
 
 -- these are the ports of all peers of the table, in order
-pub record AreAll (f : Fabric) (ports : List RingPort) : Type 0 where
+pub record AreAll (f : LaneTable) (ports : List RingPort) : Type 0 where
   pub count : length ports ≡ f.peers
   pub numbers : (k : ℕ) (p : RingPort) → slice_get ports k ≡ Some p → number_of p ≡ k
   pub tables : (k : ℕ) (p : RingPort) → slice_get ports k ≡ Some p → table_of p ≡ f
@@ -75,7 +75,7 @@ pub record Released (p q : Part) : Type 0 where
   pub posts : (d : ℕ) → posts_to d q.moves ≡ posts_to d p.moves
 
 -- a part of the seat that speaks for all peers
-pub record IsPartOf (f : Fabric) (k : ℕ) (p : Part) : Type 0 where
+pub record IsPartOf (f : LaneTable) (k : ℕ) (p : Part) : Type 0 where
   pub me : p.me ≡ k
   pub peers : p.peers ≡ f.peers
   pub room : p.room ≡ f.room
@@ -84,7 +84,7 @@ pub record IsPartOf (f : Fabric) (k : ℕ) (p : Part) : Type 0 where
   pub all_ins : length p.ins ≡ f.peers
   pub closed : (s : ℕ) → (in_at p s).opened ≡ None
 
-pub record IsJoined (f : Fabric) (s : PeerSeat) : Type 0 where
+pub record IsJoined (f : LaneTable) (s : PeerSeat) : Type 0 where
   pub of : IsOf f s
   pub count : length (view_of_seat s).parts ≡ f.peers
   pub empty : carried s ≡ []
@@ -101,7 +101,7 @@ pub record Grew (s t : PeerSeat) (r e : ℕ) (xs : List Sent) : Type 0 where
   pub rest : (k : ℕ) → k ≢ r → seats.part_of t k ≡ seats.part_of s k
 
 -- the frame x of e is open at the r-th part, with its places alone in hand: its cell y, and behind that its slot
-pub record IsOpen (f : Fabric) (t : PeerSeat) (r e : ℕ) (x : Sent) (y : Slot) : Type 0 where
+pub record IsOpen (f : LaneTable) (t : PeerSeat) (r e : ℕ) (x : Sent) (y : Slot) : Type 0 where
   pub of : IsOf f t
   pub near : r < length (view_of_seat t).parts
   pub below : e < f.peers
@@ -144,7 +144,7 @@ pub record AreSuccessors (ports : List RingPort) (all : List Plain) : Type 0 whe
   pub each : (k : ℕ) (p : RingPort) (q : Plain) → slice_get ports k ≡ Some p → slice_get all k ≡ Some q → Succeeds p q
 
 -- one seat speaks for all these ports, each as it is when its open frames are stepped over
-pub record IsWhole (f : Fabric) (ports : List RingPort) (t : PeerSeat) : Type 0 where
+pub record IsWhole (f : LaneTable) (ports : List RingPort) (t : PeerSeat) : Type 0 where
   pub joined : IsJoined f t
   pub parts : (k : ℕ) (p : RingPort) → slice_get ports k ≡ Some p → Released (part_of p) (seats.part_of t k)
 
@@ -166,7 +166,7 @@ pub record AwaitsEach (t : PeerSeat) (p : Plain) (rooms : List Inside) : Type 0 
   pub leads : (e : ℕ) (i : Inside) → slice_get rooms e ≡ Some i → Leads t p.number e (lane_at p e).in_after i.frames.items
   pub none : (e : ℕ) → (lane_at p e).in_list ≡ []
 
-pub record AwaitsAll (f : Fabric) (t : PeerSeat) (ps : List Plain) (rooms : List (Vec Inside Global)) : Type 0 where
+pub record AwaitsAll (f : LaneTable) (t : PeerSeat) (ps : List Plain) (rooms : List (Vec Inside Global)) : Type 0 where
   pub count : length rooms ≡ f.peers
   pub ports : length ps ≡ f.peers
   pub numbers : (r : ℕ) (p : Plain) → slice_get ps r ≡ Some p → (p.number ≡ r) × (length p.lanes ≡ f.peers)

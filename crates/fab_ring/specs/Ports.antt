@@ -2,9 +2,9 @@
 use Rattle.std.specs.Prelude.{◌≡◌, ℕ, ◌+◌, List, map, Option, Some, None}
 use Rattle.std.specs.Arc.{arc_value}
 use Rattle.fab_base.specs.declared.frames.Frame.{Frame}
-use Rattle.fab_wire.specs.declared.moves.Move.{Move}
+use Rattle.fab_link.specs.declared.moves.Move.{Move}
 use Rattle.fab_link.specs.Meaning.{Outgoing, Incoming}
-use Rattle.fab_table.specs.declared.fabric.Fabric.{Fabric}
+use Rattle.fab_table.specs.declared.lane_table.LaneTable.{LaneTable}
 use Rattle.fab_table.specs.declared.kinds.Sent.{Sent}
 use Rattle.fab_table.specs.declared.kinds.Out.{Out}
 use Rattle.fab_table.specs.declared.kinds.In.{In}
@@ -51,7 +51,7 @@ abbrev pub pool_of : RingPort → ℕ
 pool_of p = (arc_value p.fabric).pool
 
 -- the table that the port belongs to
-abbrev pub table_of : RingPort → Fabric
+abbrev pub table_of : RingPort → LaneTable
 table_of p = arc_value p.fabric
 
 -- how many of the frames posted to d the last look showed given back, and how often each slot of its pool was found taken

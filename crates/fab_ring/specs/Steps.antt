@@ -13,11 +13,11 @@ use Rattle.std.specs.Prelude.{◌≡◌, ℕ, ◌+◌, ◌*◌, ◌^◌, ◌<◌
 use Rattle.atomic_table.specs.Table.{rest}
 use Rattle.fab_base.specs.declared.frames.FrameHead.{FrameHead}
 use Rattle.fab_base.specs.declared.limits.TheConstants.{FRAME_BYTES}
-use Rattle.fab_wire.specs.Frames.{last_head, MayCome}
-use Rattle.fab_wire.specs.declared.moves.Move.TheVariants.{Post, Take}
-use Rattle.fab_table.specs.declared.fabric.Fabric.{Fabric}
-use Rattle.fab_table.specs.declared.fabric.PeerSeat.{PeerSeat}
-use Rattle.fab_table.specs.declared.kinds.TheConstants.{INLINE_BYTES}
+use Rattle.fab_link.specs.Frames.{last_head, MayCome}
+use Rattle.fab_link.specs.declared.moves.Move.TheVariants.{Post, Take}
+use Rattle.fab_table.specs.declared.lane_table.LaneTable.{LaneTable}
+use Rattle.fab_table.specs.declared.lane_table.PeerSeat.{PeerSeat}
+use Rattle.fab_base.specs.declared.limits.TheConstants.{INLINE_BYTES}
 use Rattle.fab_table.specs.declared.kinds.Command.{Command}
 use Rattle.fab_table.specs.declared.kinds.Out.{Out}
 use Rattle.fab_table.specs.declared.kinds.Sent.{Sent}
@@ -61,17 +61,17 @@ abbrev pub with_slot : Next → PeerSeat → Command → ℕ → List ℕ → Li
 with_slot n s c q b = (slot_home (view_of_seat s) 0 q, Pool b) ∷ (n.place, Cell (named c q)) ∷ rest (carried s)
 
 -- the slots from one on were tried until this one, before another, was free
-abbrev pub FoundSlot : Fabric → Next → PeerSeat → PeerSeat → Command → ℕ → ℕ → ℕ → Type 0
+abbrev pub FoundSlot : LaneTable → Next → PeerSeat → PeerSeat → Command → ℕ → ℕ → ℕ → Type 0
 FoundSlot table n s t c q from to =
     (b : List ℕ) × (j : ℕ) × (ts : List ℕ) × (f : ℕ) × (length b ≡ FRAME_BYTES) × (from ≤ j) × (j < to) × (q < table.peers * table.pool) × IsTriedFrom (lane_to n s) from j ts f
     × (sat t ≡ tried_seat n s ts f (Some q) (with_slot n s c q b))
 
 -- all slots were tried, and none was free
-abbrev pub FoundNoneAt : Fabric → Next → PeerSeat → PeerSeat → Type 0
+abbrev pub FoundNoneAt : LaneTable → Next → PeerSeat → PeerSeat → Type 0
 FoundNoneAt table n s t = (c : Command) × (ts : List ℕ) × (f : ℕ) × IsTried (lane_to n s) table.pool ts f × (sat t ≡ tried_seat n s ts f None ((n.place, Cell c) ∷ rest (carried s)))
 
 -- this slot was free, and no other was tried twice
-abbrev pub FoundSlotAt : Fabric → Next → PeerSeat → PeerSeat → Command → ℕ → Type 0
+abbrev pub FoundSlotAt : LaneTable → Next → PeerSeat → PeerSeat → Command → ℕ → Type 0
 FoundSlotAt table n s t c q =
     (b : List ℕ) × (j : ℕ) × (ts : List ℕ) × (f : ℕ) × (length b ≡ FRAME_BYTES) × (j < table.pool) × (q < table.peers * table.pool) × IsMissed (lane_to n s) j ts f
     × (sat t ≡ tried_seat n s ts f (Some q) (with_slot n s c q b))
@@ -81,20 +81,20 @@ abbrev pub left_seat : Next → PeerSeat → List ℕ → ℕ → Sat
 left_seat n s ts f = (new_out_view (view_of_seat s) 0 n.dest (tried_out (lane_to n s) ts f false None), rest (carried s))
 
 -- no frame was posted, since of all slots none was free
-abbrev pub SentNone : Fabric → Next → PeerSeat → PeerSeat → Type 0
+abbrev pub SentNone : LaneTable → Next → PeerSeat → PeerSeat → Type 0
 SentNone table n s t = (ts : List ℕ) × (f : ℕ) × IsTried (lane_to n s) table.pool ts f × (sat t ≡ left_seat n s ts f)
 
 -- the same of a frame that needs a slot
-abbrev pub SentNoneOf : Fabric → Next → PeerSeat → PeerSeat → List ℕ → Type 0
+abbrev pub SentNoneOf : LaneTable → Next → PeerSeat → PeerSeat → List ℕ → Type 0
 SentNoneOf table n s t bytes = (ts : List ℕ) × (f : ℕ) × (INLINE_BYTES < length bytes) × IsTried (lane_to n s) table.pool ts f × (sat t ≡ left_seat n s ts f)
 
 -- the frame was posted with this slot
-abbrev pub SentSlot : Fabric → Next → PeerSeat → PeerSeat → FrameHead → List ℕ → Type 0
+abbrev pub SentSlot : LaneTable → Next → PeerSeat → PeerSeat → FrameHead → List ℕ → Type 0
 SentSlot table n s t head bytes =
     (q : ℕ) × (j : ℕ) × (ts : List ℕ) × (f : ℕ) × (j < table.pool) × IsMissed (lane_to n s) j ts f × (sat t ≡ posted_seat n s (tried_out (lane_to n s) ts f true None) (sent_as head bytes n.number (Some q)))
 
 -- the frame was posted, with a slot or without
-abbrev pub SentAny : Fabric → Next → PeerSeat → PeerSeat → FrameHead → List ℕ → Type 0
+abbrev pub SentAny : LaneTable → Next → PeerSeat → PeerSeat → FrameHead → List ℕ → Type 0
 SentAny table n s t head bytes =
     (slot : Option ℕ) × (ts : List ℕ) × (f : ℕ) × IsSent (lane_to n s) table.pool (length bytes) slot ts f × (sat t ≡ posted_seat n s (tried_out (lane_to n s) ts f true None) (sent_as head bytes n.number slot))
 
@@ -118,7 +118,7 @@ LooksInline n s t command was now =
     × (sat t ≡ saw_seat n s r x (cell_of n s c ∷ carried s))
 
 -- a frame with a slot is open: its cell and its slot are last in hand, and the slot has the buffer that was handed in
-abbrev pub LooksPooled : Fabric → Oldest → PeerSeat → PeerSeat → Command → List ℕ → List ℕ → Type 0
+abbrev pub LooksPooled : LaneTable → Oldest → PeerSeat → PeerSeat → Command → List ℕ → List ℕ → Type 0
 LooksPooled table n s t command was now =
     (r : ℕ) × (x : Sent) × (c : Command) × (q : ℕ) × (length (seats.in_of s 0 n.src).taken < r) × (r < 2 ^ 64) × (x.slot ≡ Some q) × (q < table.peers * table.pool)
     × MayCome (last_head None (frames_of (seats.in_of s 0 n.src).taken)) x.frame × Tells x command now × (length now ≡ FRAME_BYTES)

@@ -8,8 +8,8 @@
 --     tried_out, sent_as    a lane after tries, and after a frame was posted
 use Rattle.std.specs.Prelude.{◌≡◌, ℕ, zero, suc, ◌+◌, ◌<◌, ◌≤◌, ◌⊎◌, Bool, List, [], ◌∷◌, length, slice_index, Option, None}
 use Rattle.fab_base.specs.declared.frames.FrameHead.{FrameHead}
-use Rattle.fab_wire.specs.Frames.{frame}
-use Rattle.fab_table.specs.declared.kinds.TheConstants.{INLINE_BYTES}
+use Rattle.fab_link.specs.Frames.{frame}
+use Rattle.fab_base.specs.declared.limits.TheConstants.{INLINE_BYTES}
 use Rattle.fab_table.specs.declared.kinds.Sent.{Sent}
 use Rattle.fab_table.specs.declared.kinds.Out.{Out}
 use Rattle.fab_table.specs.Views.{least}

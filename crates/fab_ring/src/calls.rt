@@ -1,12 +1,12 @@
 //! What the calls of a port do to what its seat knows.
 ghost use Rattle.std.specs.Prelude.{◌≡◌, ◌≢◌, ℕ, ◌+◌, ◌-◌, ◌*◌, ◌%◌, ◌<◌, ◌≤◌, ◌^◌, ◌⊎◌, true, false, List, [], ◌∷◌, ◌++◌, length, slice_index_or, Option, None, Some, IsSome, IfSome, IsErrOf, OnOk, Err};
-ghost use Rattle.fab_wire.specs.declared.moves.Move.TheVariants.{Post, Take};
-ghost use Rattle.fab_wire.specs.Frames.{last_head, lent_frame, Continues, MayCome};
+ghost use Rattle.fab_link.specs.declared.moves.Move.TheVariants.{Post, Take};
+ghost use Rattle.fab_link.specs.Frames.{last_head, lent_frame, Continues, MayCome};
 ghost use Rattle.fab_link.specs.Meaning.{Rests, Gives};
 ghost use Rattle.fab_link.specs.Plain.{lent_frames};
 ghost use Rattle.std.specs.Borrow.{sem};
-ghost use Rattle.fab_ring.specs.Looks.{Looked};
-ghost use Rattle.fab_table.specs.declared.kinds.TheConstants.{INLINE_BYTES};
+ghost use Rattle.fab_ring.specs.Looks.{Looked, SawAllTaken};
+ghost use Rattle.fab_base.specs.declared.limits.TheConstants.{INLINE_BYTES};
 ghost use Rattle.fab_table.specs.declared.kinds.Sent.{Sent};
 ghost use Rattle.fab_table.specs.Views.{frames_of, out_at, in_at, with_out, with_in, saw_full, saw_room, posted_one, saw_empty, saw_frame, freed_one, taken_one};
 ghost use Rattle.fab_table.specs.Rule.{Repays};
@@ -207,6 +207,7 @@ impl RingPort {
         ensures port { SamePort self.old self.new }
         ensures again { IsSome (in_at (part_of self.old) src).opened → self.new.seat ≡ self.old.seat }
         ensures looked { (in_at (part_of self.old) src).opened ≡ None → PortLooked self.old self.new src }
+        ensures saw { (in_at (part_of self.old) src).opened ≡ None → (in_at (part_of self.new) src).opened ≡ None → SawAllTaken self.old self.new src }
     {
         if self.opened[src as usize] {
             return;

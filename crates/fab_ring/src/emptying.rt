@@ -2,7 +2,7 @@
 ghost use Rattle.std.specs.Prelude.{◌≡◌, ℕ, ◌+◌, ◌<◌, ◌≤◌, ◌^◌, ◌++◌, ◌∷◌, List, [], length, take, Option, None};
 ghost use Rattle.fab_base.specs.declared.limits.TheConstants.{FRAME_BYTES};
 ghost use Rattle.fab_base.specs.declared.frames.FrameHead.{FrameHead};
-ghost use Rattle.fab_wire.specs.Frames.{last_head, IsLane, MayCome};
+ghost use Rattle.fab_link.specs.Frames.{last_head, IsLane, MayCome};
 ghost use Rattle.fab_link.specs.Plain.{lane_at};
 ghost use Rattle.fab_table.specs.declared.kinds.Sent.{Sent};
 ghost use Rattle.fab_table.specs.declared.kinds.Slot.{Slot};
@@ -17,7 +17,7 @@ use crate::receiving::Oldest;
 use crate::rooms::Inside;
 use fab_base::{Buf, Frame};
 use fab_link::{PlainPort, Port};
-use fab_table::{Command, Fabric, PeerSeat, blank};
+use fab_table::{Command, LaneTable, PeerSeat, blank};
 
 /// The first bytes of a buffer, without a copy.
 fn cut(buffer: Buf, len: usize) -> Buf
@@ -30,7 +30,7 @@ fn cut(buffer: Buf, len: usize) -> Buf
 
 /// The bytes of the frame that is open. A slot's buffer goes out for the spare one, and the slot is freed.
 fn bytes_of(
-    fabric: &Fabric,
+    fabric: &LaneTable,
     seat: &mut PeerSeat,
     next: &Oldest,
     command: &Command,
@@ -57,7 +57,7 @@ fn bytes_of(
 }
 
 /// Takes the next frame of a lane. Its bytes come into the spare buffer, or in its place.
-fn take_next(fabric: &Fabric, seat: &mut PeerSeat, next: &Oldest, spare: Buf) -> Frame
+fn take_next(fabric: &LaneTable, seat: &mut PeerSeat, next: &Oldest, spare: Buf) -> Frame
     requires joined { IsJoined fabric.now seat.old }
     requires below { (next.now.me < fabric.now.peers) × (next.now.src < fabric.now.peers) }
     requires count { next.now.got ≡ length (in_of seat.old next.now.me next.now.src).taken }
@@ -83,7 +83,7 @@ fn take_next(fabric: &Fabric, seat: &mut PeerSeat, next: &Oldest, spare: Buf) ->
 
 /// Takes all that is inside a lane, and gives its frames.
 fn empty_lane(
-    fabric: &Fabric,
+    fabric: &LaneTable,
     seat: &mut PeerSeat,
     reader: u64,
     source: u64,
@@ -120,7 +120,7 @@ fn empty_lane(
 }
 
 /// Takes all that is inside the lanes to one peer, as what came to its plain port.
-fn receive(fabric: &Fabric, seat: &mut PeerSeat, port: &mut PlainPort, mut rooms: Vec<Inside>)
+fn receive(fabric: &LaneTable, seat: &mut PeerSeat, port: &mut PlainPort, mut rooms: Vec<Inside>)
     requires joined { IsJoined fabric.now seat.old }
     requires port { (port.old.number < fabric.now.peers) × (length port.old.lanes ≡ fabric.now.peers) }
     requires awaits { AwaitsEach seat.old port.old rooms.items }
@@ -138,7 +138,7 @@ fn receive(fabric: &Fabric, seat: &mut PeerSeat, port: &mut PlainPort, mut rooms
 
 /// Takes all that is inside the lanes to all peers.
 pub(crate) fn receive_all(
-    fabric: &Fabric,
+    fabric: &LaneTable,
     seat: &mut PeerSeat,
     ports: &mut [PlainPort],
     mut rooms: Vec<Vec<Inside>>,

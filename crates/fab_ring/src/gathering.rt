@@ -1,7 +1,7 @@
 //! Ports gathered into plain ports.
 ghost use Rattle.std.specs.Prelude.{◌≡◌, map, IfErr, IfOk, OnOk, IsTrue};
-ghost use Rattle.fab_wire.specs.Merged.{merges};
-ghost use Rattle.fab_table.specs.declared.fabric.Fabric.{Fabric};
+ghost use Rattle.fab_link.specs.Merged.{merges};
+ghost use Rattle.fab_table.specs.declared.lane_table.LaneTable.{LaneTable};
 ghost use Rattle.fab_ring.specs.Ports.{moves_of};
 ghost use Rattle.fab_ring.specs.Gather.{AreAll, AreOwed, Gathered};
 
@@ -22,7 +22,7 @@ pub struct GatherRefused {
 /// the last frames that its port posted and took, and the frames on their way to it are those that came.
 /// All memory is taken first: a buffer of [`FRAME_BYTES`](fab_base::FRAME_BYTES) bytes for each frame on its way.
 pub fn gather(alloc: Global, ports: Vec<RingPort>) -> Result<Vec<PlainPort>, GatherRefused>
-    requires { (f : Fabric) × AreAll f ports.items }
+    requires { (f : LaneTable) × AreAll f ports.items }
     ensures refused { IfErr result (λ e. e.ports.items ≡ ports.items) }
     ensures gathered { IfOk result (λ v. Gathered ports.items v.items) }
 

@@ -1,8 +1,8 @@
 //! The seats of all ports joined into one.
 ghost use Rattle.std.specs.Prelude.{◌≡◌, ℕ, ◌<◌, ◌++◌, ◌∷◌, [], length, None, Some, slice_get};
 ghost use Rattle.std.specs.Arc.{arc_value};
-ghost use Rattle.fab_wire.specs.declared.moves.Move.TheVariants.{Take};
-ghost use Rattle.fab_table.specs.declared.fabric.Fabric.{Fabric};
+ghost use Rattle.fab_link.specs.declared.moves.Move.TheVariants.{Take};
+ghost use Rattle.fab_table.specs.declared.lane_table.LaneTable.{LaneTable};
 ghost use Rattle.fab_table.specs.declared.kinds.Sent.{Sent};
 ghost use Rattle.fab_table.specs.Views.{in_at, part_at, with_in, taken_one};
 ghost use Rattle.fab_table.specs.Seats.{IsOf, carried, view_of_seat};
@@ -11,7 +11,7 @@ ghost use Rattle.fab_ring.specs.Ports.{part_of, peers_of, table_of, SamePort};
 ghost use Rattle.fab_ring.specs.Gather.{AreAll, Released, IsWhole};
 
 use crate::port::RingPort;
-use fab_table::{Fabric, PeerSeat};
+use fab_table::{LaneTable, PeerSeat};
 use std::sync::Arc;
 
 impl RingPort {
@@ -41,7 +41,7 @@ impl RingPort {
     }
 
     /// The table, and the seat with nothing in hand.
-    fn into_parts(mut self) -> (Arc<Fabric>, PeerSeat)
+    fn into_parts(mut self) -> (Arc<LaneTable>, PeerSeat)
         ensures table { arc_value result.0 ≡ table_of self }
         ensures of { IsOf (table_of self) result.1 }
         ensures hand { carried result.1 ≡ [] }
@@ -55,10 +55,10 @@ impl RingPort {
 }
 
 /// The table, and one seat that speaks for all peers, with nothing in hand.
-pub(crate) fn join_all(mut ports: Vec<RingPort>) -> (Arc<Fabric>, PeerSeat)
-    requires { (f : Fabric) × AreAll f ports.items }
-    ensures table { (f : Fabric) → AreAll f ports.items → arc_value result.0 ≡ f }
-    ensures whole { (f : Fabric) → AreAll f ports.items → IsWhole f ports.items result.1 }
+pub(crate) fn join_all(mut ports: Vec<RingPort>) -> (Arc<LaneTable>, PeerSeat)
+    requires { (f : LaneTable) × AreAll f ports.items }
+    ensures table { (f : LaneTable) → AreAll f ports.items → arc_value result.0 ≡ f }
+    ensures whole { (f : LaneTable) → AreAll f ports.items → IsWhole f ports.items result.1 }
 {
     let Some(last) = ports.pop() else {
         unreachable!()

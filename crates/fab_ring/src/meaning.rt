@@ -1,13 +1,14 @@
 //! The port's calls, in the words of all ports.
 ghost use Rattle.std.specs.Prelude.{◌≡◌, ◌≢◌, ℕ, ◌+◌, ◌<◌, ◌≤◌, ◌⊎◌, ◌++◌, ◌∷◌, [], length, true, None, Some, IsSome, IsErrOf, OnOk, OnErr, Ok, Err, slice_index};
-ghost use Rattle.fab_table.specs.declared.fabric.Fabric.{Fabric};
-ghost use Rattle.fab_table.specs.declared.kinds.TheConstants.{INLINE_BYTES};
+ghost use Rattle.fab_table.specs.declared.lane_table.LaneTable.{LaneTable};
+ghost use Rattle.fab_base.specs.declared.limits.TheConstants.{INLINE_BYTES};
 ghost use Rattle.fab_base.specs.Counts.{Rose};
-ghost use Rattle.fab_wire.specs.declared.moves.Move.TheVariants.{Post, Take};
-ghost use Rattle.fab_wire.specs.Frames.{frame, Continues};
+ghost use Rattle.fab_link.specs.declared.moves.Move.TheVariants.{Post, Take};
+ghost use Rattle.fab_link.specs.Frames.{frame, Continues};
 ghost use Rattle.fab_link.specs.Meaning.{Others, end_of, Noticed, Repays, GrewBy, advanced};
 ghost use Rattle.fab_table.specs.Views.{out_at, in_at};
 ghost use Rattle.fab_table.specs.Plays.{most};
+ghost use Rattle.fab_ring.specs.Looks.{SawAllTaken};
 ghost use Rattle.fab_ring.specs.Ports.{part_of, number_of, peers_of, room_of, pool_of, out_of, in_of, moves_of, table_of, got_seen, tries, slots, clock_of, one_more};
 
 use crate::port::RingPort;
@@ -29,13 +30,17 @@ impl Port for RingPort {
 
     ghost moves = { λ p. Some (moves_of p) };
 
-    ghost Home = { Fabric };
+    ghost Home = { LaneTable };
 
     ghost home = { table_of };
 
     ghost in_list = { λ h s. None };
 
+    ghost SawNone = { SawAllTaken };
+
     ghost taken_first = { λ p s. tt };
+
+    ghost none_behind = { λ p q s saw. tt };
 
     fn me(&self) -> u32 {
         self.me

@@ -6,7 +6,7 @@ ghost use Rattle.fab_table.specs.Seats.{IsOf};
 ghost use Rattle.fab_ring.specs.Hands.{shapes, Fits, Rounds, Sees, Told, Ends, Comes, ups};
 
 use fab_base::{Buf, FrameHead};
-use fab_table::{Command, Fabric, PeerSeat};
+use fab_table::{Command, LaneTable, PeerSeat};
 use std::sync::Arc;
 
 /// A port over the one table: one peer's end of the lanes to and from every peer.
@@ -14,7 +14,7 @@ use std::sync::Arc;
 /// No call waits, none takes memory, and none tries again.
 #[derive(Drop)]
 pub struct RingPort {
-    pub(crate) fabric: Arc<Fabric>,
+    pub(crate) fabric: Arc<LaneTable>,
     pub(crate) seat: PeerSeat,
     pub(crate) me: u32,
     /// The greatest number of a frame that was posted or taken.
@@ -53,7 +53,7 @@ pub struct RingPort {
 /// The lanes between each two peers, before they have ports.
 #[derive(Drop)]
 pub struct Rings {
-    pub(crate) fabric: Arc<Fabric>,
+    pub(crate) fabric: Arc<LaneTable>,
     pub(crate) seat: PeerSeat,
     ghost whole: { (seat.seat.table_id ≡ (arc_value fabric).table.shared.table_id) × (seat.seat.me ≡ (everyone (arc_value fabric).peers (arc_value fabric).room (arc_value fabric).pool, [])) },
 }

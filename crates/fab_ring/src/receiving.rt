@@ -2,20 +2,20 @@
 ghost use Rattle.std.specs.Prelude.{◌≡◌, ◌≢◌, ℕ, ◌+◌, ◌*◌, ◌<◌, ◌≤◌, ◌^◌, true, false, List, [], ◌∷◌, ◌++◌, length, None, Some};
 ghost use Rattle.fab_base.specs.declared.limits.TheConstants.{FRAME_BYTES};
 ghost use Rattle.atomic_table.specs.Table.{rest};
-ghost use Rattle.fab_wire.specs.Frames.{last_head, MayCome};
+ghost use Rattle.fab_link.specs.Frames.{last_head, MayCome};
 ghost use Rattle.fab_table.specs.declared.kinds.Command.{Command};
 ghost use Rattle.fab_table.specs.declared.kinds.Sent.{Sent};
 ghost use Rattle.fab_table.specs.declared.kinds.Slot.{Slot};
 ghost use Rattle.fab_table.specs.declared.kinds.Slot.TheVariants.{Cell, Pool};
 ghost use Rattle.fab_table.specs.Views.{frames_of, saw_empty, saw_frame, freed_one};
-ghost use Rattle.fab_table.specs.Plays.{oldest_cell, slot_home, new_in_view};
+ghost use Rattle.fab_table.specs.Plays.{SawPut, oldest_cell, slot_home, new_in_view};
 ghost use Rattle.fab_table.specs.Seats.{IsOf, IsSame, carried, view_of_seat, sat, part_of, in_of};
 ghost use Rattle.fab_ring.specs.Steps.{Frees, LooksEmpty, LooksInline, LooksPooled};
 ghost use Rattle.fab_ring.specs.Alone.{IsAlone};
 ghost use Rattle.fab_ring.specs.declared.receiving.Look.TheVariants.{Empty, Inline, Pooled};
 
 use fab_base::Buf;
-use fab_table::{Command, Fabric, PeerSeat};
+use fab_table::{Command, LaneTable, PeerSeat};
 
 /// The next frame of a peer: how many were taken before, and its cell's place.
 #[derive(Clone, Copy, Drop)]
@@ -37,7 +37,7 @@ pub(crate) enum Look {
 /// Looks for the next frame of a peer. Where there is one its command is copied, and the buffer of its
 /// slot, if it has one, is taken for another.
 pub(crate) fn open_next(
-    fabric: &Fabric,
+    fabric: &LaneTable,
     seat: &mut PeerSeat,
     next: &Oldest,
     command: &mut Command,
@@ -51,6 +51,7 @@ pub(crate) fn open_next(
     requires spare { length buffer.old ≡ FRAME_BYTES }
     ensures seat { IsSame seat.old seat.new }
     ensures empty { result ≡ Empty → (command.new ≡ command.old) × (buffer.new ≡ buffer.old) × LooksEmpty next.now seat.old seat.new }
+    ensures saw { result ≡ Empty → SawPut (sat seat.old) next.now.got (sat seat.new) 0 next.now.src }
     ensures inline { result ≡ Inline → LooksInline next.now seat.old seat.new command.new buffer.old buffer.new }
     ensures pooled { result ≡ Pooled → LooksPooled fabric.now next.now seat.old seat.new command.new buffer.old buffer.new }
 {
@@ -71,7 +72,7 @@ pub(crate) fn open_next(
 }
 
 /// Frees the slot of the open frame of a peer. The frame's cell goes behind the other places in hand.
-pub(crate) fn free_pooled(fabric: &Fabric, seat: &mut PeerSeat, me: u64, src: u64, slot: u64)
+pub(crate) fn free_pooled(fabric: &LaneTable, seat: &mut PeerSeat, me: u64, src: u64, slot: u64)
     requires alone { IsAlone fabric.now seat.old me }
     requires below { (src < fabric.now.peers) × (slot < fabric.now.peers * fabric.now.pool) }
     requires opened { (x : Sent) × ((in_of seat.old 0 src).opened ≡ Some x) × (x.slot ≡ Some slot) × ((in_of seat.old 0 src).lent ≡ true) }

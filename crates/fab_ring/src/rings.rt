@@ -8,7 +8,7 @@ ghost use Rattle.fab_ring.specs.Made.{AreMade, IsMade, rings_peers, rings_room, 
 
 use crate::port::{RingPort, Rings};
 use fab_base::{Buf, FRAME_BYTES, FrameHead, NoMemory};
-use fab_table::{Command, Fabric, PeerSeat, blank};
+use fab_table::{Command, LaneTable, PeerSeat, blank};
 use std::alloc::Global;
 use std::sync::Arc;
 
@@ -89,7 +89,7 @@ impl RingPort {
     /// A port over a seat that speaks for one peer, which has neither posted nor taken.
     fn open(
         alloc: Global,
-        fabric: Arc<Fabric>,
+        fabric: Arc<LaneTable>,
         seat: PeerSeat,
         me: u32,
     ) -> Result<RingPort, NoMemory>
@@ -140,7 +140,7 @@ impl Rings {
         requires pool { (0 < pool) × (pool ≤ 1024) }
         ensures { IfOk result (λ r. (rings_peers r ≡ peers) × (rings_room r ≡ lane) × (rings_pool r ≡ pool)) }
     {
-        let (fabric, seat) = Fabric::new(alloc, peers as u64, lane as u64, pool as u64)?;
+        let (fabric, seat) = LaneTable::new(alloc, peers as u64, lane as u64, pool as u64)?;
         let fabric = Arc::new(alloc, fabric)?;
         Ok(Rings { fabric, seat })
     }

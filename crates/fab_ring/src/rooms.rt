@@ -1,7 +1,7 @@
 //! The memory that gathering takes, before it changes anything.
 ghost use Rattle.std.specs.Prelude.{◌≡◌, ℕ, ◌<◌, length, IfOk, Some, slice_get, option_to_list};
 ghost use Rattle.fab_link.specs.Plain.{Plain, lane_at};
-ghost use Rattle.fab_table.specs.declared.fabric.Fabric.{Fabric};
+ghost use Rattle.fab_table.specs.declared.lane_table.LaneTable.{LaneTable};
 ghost use Rattle.fab_ring.specs.declared.port.RingPort.{RingPort};
 ghost use Rattle.fab_ring.specs.Ports.{number_of, peers_of, in_of};
 ghost use Rattle.fab_ring.specs.Gather.{AreAll, Succeeds, AreSuccessors, IsRoom, AreRooms, AreAllRooms};
@@ -89,7 +89,7 @@ fn rooms_of(alloc: Global, ports: &[RingPort], reader: &RingPort) -> Result<Vec<
 
 /// Room for what is inside all lanes, by reader.
 pub(crate) fn rooms(alloc: Global, ports: &[RingPort]) -> Result<Vec<Vec<Inside>>, NoMemory>
-    requires { (f : Fabric) × AreAll f ports.now }
+    requires { (f : LaneTable) × AreAll f ports.now }
     ensures { IfOk result (λ v. AreAllRooms ports.now v.items) }
 {
     let mut all = Vec::with_capacity(alloc, ports.len())?;

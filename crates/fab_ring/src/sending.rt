@@ -2,9 +2,9 @@
 ghost use Rattle.std.specs.Prelude.{◌≡◌, ◌≢◌, ℕ, ◌+◌, ◌*◌, ◌<◌, ◌≤◌, ◌^◌, true, false, List, [], ◌∷◌, ◌++◌, length, Option, None, Some};
 ghost use Rattle.fab_base.specs.declared.limits.TheConstants.{FRAME_BYTES};
 ghost use Rattle.atomic_table.specs.Table.{rest};
-ghost use Rattle.fab_wire.specs.declared.moves.Move.TheVariants.{Post};
-ghost use Rattle.fab_wire.specs.Frames.{last_head, Continues};
-ghost use Rattle.fab_table.specs.declared.kinds.TheConstants.{INLINE_BYTES};
+ghost use Rattle.fab_link.specs.declared.moves.Move.TheVariants.{Post};
+ghost use Rattle.fab_link.specs.Frames.{last_head, Continues};
+ghost use Rattle.fab_base.specs.declared.limits.TheConstants.{INLINE_BYTES};
 ghost use Rattle.fab_table.specs.declared.kinds.Command.{Command};
 ghost use Rattle.fab_table.specs.declared.kinds.Slot.TheVariants.{Cell, Pool};
 ghost use Rattle.fab_table.specs.Views.{frames_of, with_part, with_out, posted_one};
@@ -15,8 +15,8 @@ ghost use Rattle.fab_ring.specs.Tries.{sent_as};
 ghost use Rattle.fab_ring.specs.Steps.{FoundNone, FoundNoneAt, FoundSlot, FoundSlotAt, IsCell, SentAny, SentNone, SentNoneOf, SentSlot};
 ghost use Rattle.fab_ring.specs.Alone.{IsAlone};
 
-use fab_base::FrameHead;
-use fab_table::{Fabric, INLINE_BYTES, PeerSeat};
+use fab_base::{FrameHead, INLINE_BYTES};
+use fab_table::{LaneTable, PeerSeat};
 
 /// A frame's number is at most this.
 pub(crate) const MOST: u64 = 1 << 62;
@@ -47,7 +47,7 @@ pub(crate) struct Next {
 /// Where there is room for one more frame, its cell comes into hand. The word of the receiver, which it has most
 /// likely just written, is looked at only where what was seen of it last leaves no room. Answers how many
 /// frames were given back, as was seen last.
-pub(crate) fn hold_next(fabric: &Fabric, seat: &mut PeerSeat, tally: &Tally) -> u64
+pub(crate) fn hold_next(fabric: &LaneTable, seat: &mut PeerSeat, tally: &Tally) -> u64
     requires seat { IsOf fabric.now seat.old × IsAt fabric.now seat.old 0 tally.now.me × (tally.now.dest < fabric.now.peers) }
     requires room { (part_of seat.old 0).room ≡ fabric.now.room }
     requires idle { (out_of seat.old 0 tally.now.dest).writing ≡ false }
@@ -67,7 +67,7 @@ pub(crate) fn hold_next(fabric: &Fabric, seat: &mut PeerSeat, tally: &Tally) -> 
 /// Tries the slots of the peer's pool from one on and before another, until one was free. The cell in hand
 /// names the one that is tried.
 fn claim_between(
-    fabric: &Fabric,
+    fabric: &LaneTable,
     seat: &mut PeerSeat,
     next: &Next,
     from: u64,
@@ -98,7 +98,7 @@ fn claim_between(
 
 /// Tries each slot of the peer's pool until one was free: first that with the number of the frame's cell,
 /// which the last frame there has most likely left, then those behind it, and round.
-fn claim_any(fabric: &Fabric, seat: &mut PeerSeat, next: &Next) -> Option<u64>
+fn claim_any(fabric: &LaneTable, seat: &mut PeerSeat, next: &Next) -> Option<u64>
     requires alone { IsAlone fabric.now seat.old next.now.me }
     requires below { next.now.dest < fabric.now.peers }
     requires idle { (out_of seat.old 0 next.now.dest).claim ≡ None }
@@ -119,7 +119,7 @@ fn claim_any(fabric: &Fabric, seat: &mut PeerSeat, next: &Next) -> Option<u64>
 
 /// Posts a frame whose bytes fit into the cell in hand.
 pub(crate) fn send_inline(
-    fabric: &Fabric,
+    fabric: &LaneTable,
     seat: &mut PeerSeat,
     next: &Next,
     head: FrameHead,
@@ -145,7 +145,7 @@ pub(crate) fn send_inline(
 /// Posts a frame whose bytes go into a slot of the peer's pool, or, where none was free, gives the cell
 /// in hand back and answers false.
 pub(crate) fn send_pooled(
-    fabric: &Fabric,
+    fabric: &LaneTable,
     seat: &mut PeerSeat,
     next: &Next,
     head: FrameHead,
@@ -180,7 +180,7 @@ pub(crate) fn send_pooled(
 
 /// Posts a frame, with a slot where it has more than [`INLINE_BYTES`]. False where no slot was free.
 pub(crate) fn send_next(
-    fabric: &Fabric,
+    fabric: &LaneTable,
     seat: &mut PeerSeat,
     next: &Next,
     head: FrameHead,

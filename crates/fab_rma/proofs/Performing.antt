@@ -20,8 +20,9 @@ use Rattle.fab_base.specs.declared.items.Outcome.{Outcome}
 use Rattle.fab_base.specs.declared.items.Outcome.TheVariants.{Done, BadKey, BadAccess, BadRange}
 use Rattle.fab_model.specs.State.{Region}
 use Rattle.fab_model.specs.Matching.{change_first}
-use Rattle.fab_model.specs.Target.{Performed, changed_range, elements, is_base, is_keyed, may_access, outcome_of, perform, performed_in, put_range, reach_of, refused_by}
-use Rattle.fab_wire.specs.Frames.{IsSound, IsSoundAs, IsSoundAtomic, compare_bytes, operand_bytes}
+use Rattle.fab_model.specs.Target.{Performed, changed_range, elements, is_keyed, may_access, outcome_of, perform, performed_in, put_range, reach_of, refused_by}
+use Rattle.fab_base.specs.Kinds.{is_base}
+use Rattle.fab_link.specs.Frames.{IsSound, IsSoundAs, IsSoundAtomic, compare_bytes, operand_bytes}
 use Rattle.fab_mr.specs.Regions.{reaches_past, region_at}
 use Rattle.fab_atomics.specs.Operands.{compare_len, operand_len}
 use Rattle.fab_rma.specs.Serving.{Serving, compared, is_request, outcome_at}

@@ -13,7 +13,8 @@ use Rattle.fab_base.specs.declared.items.Kind.{Kind}
 use Rattle.fab_base.specs.declared.items.Kind.TheVariants.{Msg, TagMsg, WriteReq, ReadReq, AtomicReq, Reply}
 use Rattle.fab_base.specs.declared.items.Outcome.{Outcome}
 use Rattle.fab_model.specs.State.{Region}
-use Rattle.fab_model.specs.Target.{is_base, outcome_of}
+use Rattle.fab_model.specs.Target.{outcome_of}
+use Rattle.fab_base.specs.Kinds.{is_base}
 use Rattle.fab_mr.specs.Regions.{region_at}
 
 pub record Serving : Type 0 where

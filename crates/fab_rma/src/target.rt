@@ -1,18 +1,16 @@
 //! Requests of other peers, judged and performed.
 ghost use Rattle.std.specs.Prelude.{◌≡◌, ◌≢◌, ◌+◌, ◌<◌, ◌≤◌, ◌∷◌, ◌++◌, [], length, take, drop, true, None, Some, Ok, IfOk, IfErr, IfSome, MatchOption, OnOk, OnErr, slice_index, slice_set, if◌then◌else◌};
 ghost use Rattle.std.specs.Option.{option_map, ok_or};
-ghost use Rattle.fab_wire.specs.Frames.{IsSound};
-ghost use Rattle.fab_model.specs.State.{Region};
+ghost use Rattle.fab_link.specs.Frames.{IsSound};
 ghost use Rattle.fab_model.specs.Matching.{change_first, remove_first};
-ghost use Rattle.fab_model.specs.Target.{is_base, is_keyed, is_read_only, may_access, outcome_of, perform, put_range, reach_of};
+ghost use Rattle.fab_model.specs.Target.{is_keyed, may_access, perform, put_range, reach_of};
+ghost use Rattle.fab_base.specs.Kinds.{is_base, is_read_only};
 ghost use Rattle.fab_mr.specs.Regions.{region, region_at, reaches_past};
 ghost use Rattle.fab_rma.specs.Serving.{compared, is_request, nothing_served, outcome_at, room_for};
 
 use crate::elements::Elements;
 use crate::room::Room;
-use fab_base::{
-    Access, Atom, AtomicOp, Buf, Fault, Form, ItemHead, Kind, NoMemory, Outcome, Refused,
-};
+use fab_base::{Access, Atom, Buf, Fault, Form, ItemHead, Kind, NoMemory, Outcome, Refused};
 use fab_mr::Regions;
 use std::alloc::Global;
 use std::marker::Model;
@@ -44,32 +42,6 @@ impl Model for Target {
     ghost view = { λ t. record { regions = t.regions; rooms = t.rooms.items } };
 }
 
-/// Whether the atomic has no result.
-fn is_base(atom: Option<Atom>) -> bool
-    ensures { result ≡ is_base atom }
-{
-    match atom {
-        None => true,
-        Some(atom) => match atom.form {
-            Form::Base => true,
-            Form::Fetch | Form::Compare => false,
-        },
-    }
-}
-
-/// Whether the atomic changes nothing (FI_ATOMIC_READ).
-fn is_read_only(atom: Option<Atom>) -> bool
-    ensures { result ≡ is_read_only atom }
-{
-    match atom {
-        None => false,
-        Some(atom) => match atom.op {
-            AtomicOp::AtomicRead => true,
-            _ => false,
-        },
-    }
-}
-
 /// Whether the region gives the rights that the request needs.
 fn may_access(access: Access, head: &ItemHead) -> bool
     ensures { result ≡ may_access access head.now }
@@ -78,8 +50,7 @@ fn may_access(access: Access, head: &ItemHead) -> bool
         Kind::WriteReq => access.remote_write,
         Kind::ReadReq => access.remote_read,
         _ => {
-            (is_base(head.atom) || access.remote_read)
-                && (is_read_only(head.atom) || access.remote_write)
+            (head.is_base() || access.remote_read) && (head.is_read_only() || access.remote_write)
         }
     }
 }
@@ -110,7 +81,7 @@ fn room_for(head: &ItemHead) -> u32
 {
     match head.kind {
         Kind::ReadReq => head.count,
-        Kind::AtomicReq => { if is_base(head.atom) { 0 } else { head.count } }
+        Kind::AtomicReq => { if head.is_base() { 0 } else { head.count } }
         _ => 0,
     }
 }
@@ -282,7 +253,7 @@ impl Target {
                 let Some(atom) = head.atom else {
                     unreachable!()
                 };
-                let old = if is_base(head.atom) {
+                let old = if head.is_base() {
                     self.rooms[source as usize].fill(&[])
                 } else {
                     self.hand_back(source, head)

@@ -4,7 +4,7 @@ ghost use Rattle.std.specs.Prelude.{◌≡◌, ◌<◌, ◌≤◌, length, slice
 ghost use Rattle.fab_base.specs.declared.items.Ack.TheVariants.{Nothing};
 ghost use Rattle.fab_base.specs.declared.items.Kind.TheVariants.{AtomicReq};
 ghost use Rattle.fab_base.specs.declared.items.Outcome.TheVariants.{Done};
-ghost use Rattle.fab_wire.specs.Frames.{IsSound};
+ghost use Rattle.fab_link.specs.Frames.{IsSound};
 ghost use Rattle.fab_rma.specs.Serving.{is_request, room_for};
 
 use fab_base::{Access, Ack, Atom, AtomicOp, Buf, Form, ItemHead, Kind, Num, Outcome};

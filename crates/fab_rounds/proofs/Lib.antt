@@ -10,3 +10,12 @@ pub mod Rows
 pub mod Joined
 pub mod Carried
 pub mod Seated
+pub mod PhaseLists
+pub mod Ends
+pub mod Gathering
+pub mod Following
+pub mod Starting
+pub mod PhaseTurning
+pub mod Changing
+pub mod Running
+pub mod Bounding

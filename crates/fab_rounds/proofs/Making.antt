@@ -3,6 +3,7 @@ use Rattle.std.proofs.Common.{◌≡◌, ◌<◌, ◌≤◌, ◌+◌, ℕ, zero,
 use Rattle.std.specs.Prelude.{not, ◌&&◌, ◌||◌, slice_index_or}
 use Rattle.std.specs.List.{list_all, list_any}
 use Rattle.std.proofs.lemmas.List.Sums.{sum_by-cons}
+use Rattle.fab_base.proofs.Bools.{not_true, not_false}
 use Rattle.fab_model.specs.Peers.{is_finished}
 use Rattle.fab_model.specs.Views.{IsPrefixOf}
 use Rattle.fab_model.proofs.Views.{prefix_self, prefix_prefix}
@@ -10,7 +11,7 @@ use Rattle.fab_face.specs.Acts.{steps_of}
 use Rattle.fab_peer.specs.Turns.{IsStill, actor_of}
 use Rattle.fab_rounds.specs.Rounds.{Each, TurnedFor, Between, Rounded, GoesOn, MadeFor, AtOnePort, size}
 use Rattle.fab_rounds.specs.Staying.{RanFor, Risen}
-use Rattle.fab_rounds.proofs.Lists.{sums_rise, none_at, all_at, not_false, not_true}
+use Rattle.fab_rounds.proofs.Lists.{sums_rise, none_at, all_at}
 use Rattle.fab_rounds.proofs.Turning.{turned_more, still_later}
 
 -- ---- peers told from a list

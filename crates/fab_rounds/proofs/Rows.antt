@@ -3,11 +3,12 @@ use Rattle.std.proofs.Common.{◌≡◌, ◌<◌, ◌≤◌, ◌+◌, ℕ, zero,
 use Rattle.std.specs.Prelude.{not, slice_index, slice_index_or}
 use Rattle.std.specs.List.{list_all, list_any}
 use Rattle.std.proofs.lemmas.List.{same_lists}
+use Rattle.fab_base.proofs.Bools.{not_false}
 use Rattle.fab_meeting.specs.Accounts.{together, column}
 use Rattle.fab_rounds.specs.Rounds.{Each, Between, Rounded, GoesOn, size}
 use Rattle.fab_rounds.specs.Words.{told_by, goes}
 use Rattle.fab_rounds.specs.Staying.{Risen, LivedFor, RanFor}
-use Rattle.fab_rounds.proofs.Lists.{sums_rise, none_at, not_false}
+use Rattle.fab_rounds.proofs.Lists.{sums_rise, none_at}
 use Rattle.fab_rounds.proofs.Words.{told_go}
 
 module _ {Home : Type 0} where

@@ -1,11 +1,10 @@
 -- The bits of what all peers told.
-use Rattle.std.proofs.Common.{◌≡◌, ◌/◌, ◌%◌, ℕ, max, Bool, true, false, cond, eqb, ne_eqb, List, [], ◌∷◌, map, sym, refl, ap, ◌∙◌, arith}
-use mathlib.Core.Logic.{dite}
-use native.Mathlib.Decide.{ℕ_discrete}
+use Rattle.std.proofs.Common.{◌≡◌, ◌/◌, ◌%◌, ℕ, max, Bool, true, false, cond, eqb, List, [], ◌∷◌, map, sym, refl, ap, ◌∙◌, arith}
 use Rattle.std.specs.Prelude.{bit_or, not, ◌&&◌, ◌||◌, fold}
 use Rattle.std.specs.Int.{bit_at}
 use Rattle.std.specs.List.{list_all, list_any}
 use Rattle.std.proofs.lemmas.Nat.Bits.{bit_at_or, bit_at_lowest}
+use Rattle.std.proofs.lemmas.Map.Views.{exact_unsigned_eq as eqb_is}
 use Rattle.fab_model.specs.Peers.{is_finished}
 use Rattle.fab_peer.specs.Turns.{actor_of}
 use Rattle.fab_meeting.specs.Accounts.{together}
@@ -73,9 +72,6 @@ three_of true true true e = (refl, refl, refl)
 three_of true true false e = absurd (cc (e))
 three_of true false c e = absurd (cc (e))
 three_of false b c e = absurd (cc (e))
-
-eqb_is : (a b : ℕ) → eqb a b ≡ true → a ≡ b
-eqb_is a b e = dite (ℕ_discrete a b) (λ h. h) (λ ne. absurd (let f : eqb a b ≡ false = ne_eqb a b ne in let g : true ≡ false = sym e ∙ f in cc))
 
 is_true : (b : Bool) → one_if b ≡ 1 → b ≡ true
 is_true true e = refl

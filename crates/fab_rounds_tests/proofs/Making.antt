@@ -2,7 +2,7 @@
 use Rattle.std.proofs.Common.{◌≡◌, ◌∙◌, ℕ, List, None, refl, ap}
 use Rattle.std.specs.List.{All}
 use Rattle.std.proofs.lemmas.Option.{slice_get-get_or}
-use Rattle.fab_wire.specs.Frames.{last_head}
+use Rattle.fab_link.specs.Frames.{last_head}
 use Rattle.fab_link.specs.Meaning.{Outgoing, Incoming, AreFresh}
 use Rattle.fab_queue.specs.Ports as queue
 use Rattle.fab_queue.specs.Made as queues

@@ -2,11 +2,11 @@
 use Rattle.std.proofs.Common.{◌≡◌, ◌≢◌, ℕ, ◌==◌, Bool, true, false, List, [], ◌∷◌, ◌++◌, Some, refl, sym, ap, subst, ◌∙◌}
 use Rattle.std.proofs.lemmas.Bool.{eqb-true, ne_eqb}
 use Rattle.std.proofs.lemmas.List.Folds.{list_any-append}
+use Rattle.fab_base.proofs.Numbers.{numbers_differ as eqb-false}
 use Rattle.fab_model.specs.Matching.{remove_first}
 use Rattle.fab_match.specs.Matcher.{first_id, has_id}
 use Rattle.fab_match.proofs.Pairs.{has_id-first}
 use Rattle.fab_rx.specs.Stored.{AreApart}
-use Rattle.fab_rx.proofs.Tying.{eqb-false}
 
 -- no pair has an id that none had before one left
 pub lacks_fewer : {X : Type 0} (test : ℕ × X → Bool) (id : ℕ) (xs : List (ℕ × X)) → has_id id xs ≡ false → has_id id (remove_first test xs) ≡ false

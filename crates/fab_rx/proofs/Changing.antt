@@ -3,13 +3,14 @@ use Rattle.std.proofs.Common.{◌≡◌, ◌≢◌, ℕ, ◌==◌, Bool, true, f
 use Rattle.std.specs.Prelude.{find}
 use Rattle.std.specs.List.{AllZip}
 use Rattle.std.proofs.lemmas.Bool.{eqb-true}
+use Rattle.fab_base.proofs.Numbers.{numbers_differ as eqb-false}
 use Rattle.fab_model.specs.Matching.{change_first, remove_first}
 use Rattle.fab_match.specs.Matcher.{first_id, has_id}
 use Rattle.fab_match.proofs.Pairs.{has_id-first}
 use Rattle.fab_rx.specs.Stored.{AreApart}
 use Rattle.fab_rx.specs.Homes.{no_pairs}
 use Rattle.fab_rx.proofs.Apart.{lacked_other}
-use Rattle.fab_rx.proofs.Tying.{eqb-false, retied_but}
+use Rattle.fab_rx.proofs.Tying.{retied_but}
 
 -- a tie that the change keeps
 pub kept_changed : {A B : Type 0} (S : A → B → Type 0) (test : B → Bool) (f : B → B) (xs : List A) (ys : List B) → ((x : A) (y : B) → S x y → S x (f y)) → AllZip S xs ys → AllZip S xs (change_first test f ys)

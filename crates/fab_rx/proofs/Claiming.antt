@@ -4,7 +4,7 @@ use Rattle.fab_base.specs.declared.items.ItemHead.{ItemHead}
 use Rattle.fab_base.specs.declared.items.Want.{Want}
 use Rattle.fab_base.specs.declared.items.Sign.{Sign}
 use Rattle.fab_base.specs.declared.operations.Arrival.{Arrival}
-use Rattle.fab_model.specs.Matching.{is_message}
+use Rattle.fab_base.specs.Kinds.{is_message}
 use Rattle.fab_model.specs.State.{Receiving}
 use Rattle.fab_model.specs.Arrivals.{heading_message, heading_other}
 use Rattle.fab_rx.specs.declared.stored.Waiting.{Waiting}

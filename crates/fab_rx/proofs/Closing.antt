@@ -4,6 +4,7 @@ use Rattle.std.specs.List.{AllByRecursion}
 use Rattle.std.proofs.lemmas.Bool.{eqb-true}
 use Rattle.fab_base.specs.declared.items.Want.{Want}
 use Rattle.fab_base.specs.declared.items.Sign.{Sign}
+use Rattle.fab_base.proofs.Numbers.{numbers_differ as eqb-false}
 use Rattle.fab_model.specs.Matching.{remove_first}
 use Rattle.fab_match.specs.Matcher.{has_id}
 use Rattle.fab_rx.specs.declared.stored.Waiting.{Waiting}
@@ -15,7 +16,6 @@ use Rattle.fab_rx.specs.Table.{Cells}
 use Rattle.fab_rx.specs.Arriving.{Arriving}
 use Rattle.fab_rx.specs.Stored.{AreApart, IsKept}
 use Rattle.fab_rx.specs.Homes.{AreMulti, IsFed, is_fed_by, is_part_of, no_pairs}
-use Rattle.fab_rx.proofs.Tying.{eqb-false}
 use Rattle.fab_rx.proofs.Apart.{apart_rest}
 use Rattle.fab_rx.proofs.Known.{posted_count}
 

@@ -12,6 +12,8 @@ use Rattle.fab_base.specs.declared.operations.Receive.{Receive}
 use Rattle.fab_base.specs.declared.operations.Arrival.{Arrival}
 use Rattle.fab_base.specs.declared.operations.Coming.{Coming}
 use Rattle.fab_base.specs.declared.operations.Coming.TheVariants.{Into as IntoReceive}
+use Rattle.fab_base.proofs.Lists.{some_within as id_within}
+use Rattle.fab_base.proofs.Options.{not_some, some_there as there_is}
 use Rattle.fab_model.specs.Matching.{change_first, remove_first, takes}
 use Rattle.fab_model.specs.State.{Receiving, under_way}
 use Rattle.fab_model.specs.Complete.{filled, filling, is_made_by}
@@ -38,12 +40,12 @@ use Rattle.fab_rx.specs.Homes.{AreMulti, GoesHomeBy, IsPart, is_fed_by, is_part_
 use Rattle.fab_rx.specs.Numbers.{IsNumbered}
 use Rattle.fab_rx.specs.Sharing.{IsUsable, is_closed, kept_or, left_by, multi_at, placed_in, released_of, taken_in, used_up_by}
 use Rattle.fab_rx.specs.Whole.{IsInbox}
-use Rattle.fab_rx.proofs.Tables.{same_ids, id_within}
+use Rattle.fab_rx.proofs.Tables.{same_ids}
 use Rattle.fab_rx.proofs.Tying.{IsTaken}
 use Rattle.fab_rx.proofs.Keeping.{at_same, lies_agrees}
 use Rattle.fab_rx.proofs.Finding.{first_found, found_here, found_partly}
 use Rattle.fab_rx.proofs.Numbering.{below_found, numbers_gone, numbers_leave_by, others_found}
-use Rattle.fab_rx.proofs.Parting.{gone_by, length_turned, not_some, stored_where_kept, unexpected_claims, unexpected_kept}
+use Rattle.fab_rx.proofs.Parting.{gone_by, length_turned, stored_where_kept, unexpected_claims, unexpected_kept}
 use Rattle.fab_rx.proofs.Sharing.{any_at, kept_unfed, multi_moved}
 use Rattle.fab_rx.proofs.Drawing.{draws_agree}
 use Rattle.fab_rx.proofs.Ending.{fit_filled, released_as}
@@ -51,7 +53,7 @@ use Rattle.fab_rx.proofs.Taking.{fit_used, left_none, left_some, seated_off, sea
 use Rattle.fab_rx.proofs.Pasting.{length_paste_at}
 use Rattle.fab_rx.proofs.Onces.{any_where, change_none, change_twice, others_none}
 use Rattle.fab_rx.proofs.Closing.{apart_alone, closing_less_by, others_unfed}
-use Rattle.fab_rx.proofs.Shutting.{closes_as, fed_as, last_if, none_made, shared_fed, shared_last, shared_on, there_is}
+use Rattle.fab_rx.proofs.Shutting.{closes_as, fed_as, last_if, none_made, shared_fed, shared_last, shared_on}
 use Rattle.fab_rx.proofs.Giving.{IsSameBut, fit, giver, giver_found, home, kept_off, kept_on, kept_out, multi, multi_off, multi_on, multi_out, numbers_off, numbers_on, part, room_given, some, there, unclosed, want_same}
 
 -- a kept message goes on as a part

@@ -6,6 +6,7 @@ use Rattle.fab_base.specs.declared.items.Want.{Want}
 use Rattle.fab_base.specs.declared.items.Sign.{Sign}
 use Rattle.fab_base.specs.declared.operations.Receive.{Receive}
 use Rattle.fab_base.specs.declared.operations.Arrival.{Arrival}
+use Rattle.fab_base.proofs.Options.{not_some}
 use Rattle.fab_model.specs.Matching.{takes}
 use Rattle.fab_model.specs.Receiving.{draw_due, draws}
 use Rattle.fab_match.specs.Signs.{fits}
@@ -22,7 +23,6 @@ use Rattle.fab_rx.specs.declared.results.Drawn.TheVariants.{GoesOn}
 use Rattle.fab_rx.proofs.Tying.{found_alike, tied_length}
 use Rattle.fab_rx.proofs.Keeping.{lies_agrees}
 use Rattle.fab_rx.proofs.Leaving.{leaving, staying}
-use Rattle.fab_rx.proofs.Parting.{not_some}
 
 some_found : {X : Type 0} → (test : X → Bool) (xs : List X) → is_some (find test xs) ≡ list_any test xs
 some_found test [] = refl

@@ -28,7 +28,6 @@ use Rattle.fab_rx.specs.Stored.{AreApart, GoesBy, IsFit, IsKept, IsKeptWay, IsWa
 use Rattle.fab_rx.specs.Homes.{AreMulti, GoesHome, GoesHomeBy, IsFed, IsHome, IsPart, Rests, is_fed_by, is_part_of, no_pairs, part_id, part_in}
 use Rattle.fab_rx.specs.Sharing.{is_over, placed_in}
 use Rattle.fab_rx.proofs.Pasting.{length_paste_at}
-use Rattle.fab_rx.proofs.Tables.{id_within}
 use Rattle.fab_rx.proofs.Tying.{retied, retied_but, same_or, tied_both}
 use Rattle.fab_rx.proofs.Apart.{apart_of, apart_rest}
 use Rattle.fab_rx.proofs.Changing.{changed_at, found_at, kept_changed, missed_at, removed_at}
@@ -38,6 +37,7 @@ use Rattle.fab_rx.proofs.Growing.{counts_finish, lies_after, stored}
 use Rattle.fab_rx.proofs.Taking.{is_multi}
 use Rattle.fab_base.specs.declared.items.Kind.{Kind}
 use Rattle.fab_base.specs.declared.items.Kind.TheVariants.{Msg, TagMsg, WriteReq, ReadReq, AtomicReq, Reply}
+use Rattle.fab_base.proofs.Lists.{some_within as id_within}
 use Rattle.fab_rx.specs.declared.stored.Seat.{Seat}
 use Rattle.fab_rx.specs.declared.stored.Multi.{Multi}
 use Rattle.fab_rx.specs.declared.results.Completed.{Completed}

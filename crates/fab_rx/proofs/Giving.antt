@@ -6,6 +6,8 @@ use Rattle.std.specs.List.{AllZip, list_any}
 use Rattle.fab_base.specs.declared.items.Want.{Want}
 use Rattle.fab_base.specs.declared.items.Sign.{Sign}
 use Rattle.fab_base.specs.declared.operations.Receive.{Receive}
+use Rattle.fab_base.proofs.Lists.{some_within as id_within}
+use Rattle.fab_base.proofs.Numbers.{numbers_differ as eqb-false}
 use Rattle.fab_model.specs.Matching.{change_first, remove_first}
 use Rattle.fab_match.specs.Matcher.{has_id, without}
 use Rattle.fab_rx.specs.declared.stored.Waiting.{Waiting}
@@ -18,8 +20,7 @@ use Rattle.fab_rx.specs.Stored.{AreApart, IsFit, IsKept, Sits, multi_of, waiting
 use Rattle.fab_rx.specs.Homes.{AreMulti, GoesHome, IsFed, IsHome, IsPart, Rests, is_fed_by, no_pairs}
 use Rattle.fab_rx.specs.Numbers.{IsNumbered}
 use Rattle.fab_rx.specs.Sharing.{multi_at, multi_in}
-use Rattle.fab_rx.proofs.Tables.{id_within}
-use Rattle.fab_rx.proofs.Tying.{eqb-false, retied, retied_but, same_or, tied_both, tied_push}
+use Rattle.fab_rx.proofs.Tying.{retied, retied_but, same_or, tied_both, tied_push}
 use Rattle.fab_rx.proofs.Apart.{apart_claim, apart_fewer, apart_rest, not_claimed}
 use Rattle.fab_rx.proofs.Changing.{kept_changed}
 use Rattle.fab_rx.proofs.Keeping.{at_other, at_same, sits_at}

@@ -12,6 +12,7 @@ use Rattle.fab_base.specs.declared.operations.Arrival.{Arrival}
 use Rattle.fab_base.specs.declared.operations.Receive.{Receive}
 use Rattle.fab_base.specs.declared.operations.Coming.{Coming}
 use Rattle.fab_base.specs.declared.operations.Coming.TheVariants.{Into as IntoReceive, Keep as KeepIt}
+use Rattle.fab_base.proofs.Lists.{some_within as id_within}
 use Rattle.fab_model.specs.State.{Receiving, coming_from, raise, under_way}
 use Rattle.fab_model.specs.Complete.{filling}
 use Rattle.fab_model.specs.Arrivals.{completed as whole_now, keeping, made_whole, way_of}
@@ -25,7 +26,6 @@ use Rattle.fab_rx.specs.Table.{Cells, at}
 use Rattle.fab_rx.specs.Arriving.{Arriving, begun_of, bytes_come, count_begun, finishing, growing, kept as kept_by, lengthened, shared, without_closed}
 use Rattle.fab_rx.specs.Homes.{IsMore}
 use Rattle.fab_rx.specs.Stored.{AreClaimed, GoesBy, IsClaim, IsComing, IsKept, IsKeptAs, IsKeptWay, IsWay, Lies, parcel_of, parcel_without}
-use Rattle.fab_rx.proofs.Tables.{id_within}
 use Rattle.fab_rx.proofs.Tying.{same_or, retied, retied_map}
 use Rattle.fab_rx.proofs.Keeping.{IsStored, at_other, at_same, counts_set, lies_at, lies_set, row, some_stored, ways_set}
 

@@ -1,5 +1,5 @@
 -- What is stored of the receive half stands for what contracts see, whatever happens.
-use Rattle.std.proofs.Common.{◌≡◌, ◌≢◌, ◌⊎◌, inl, inr, ℕ, ◌+◌, ◌<◌, ◌≤◌, Bool, true, false, List, [], ◌∷◌, ◌++◌, length, Option, Some, None, get_or, set, vec_capacity, refl, sym, ap, subst, ◌∙◌, arith, length-set}
+use Rattle.std.proofs.Common.{◌≡◌, ◌≢◌, ◌⊎◌, inl, inr, ℕ, ◌+◌, ◌<◌, ◌≤◌, true, false, List, [], ◌∷◌, ◌++◌, length, Option, Some, None, get_or, set, vec_capacity, refl, sym, ap, subst, ◌∙◌, arith, length-set}
 use Rattle.std.specs.Prelude.{Vec}
 use Rattle.std.specs.List.{AllZip}
 use Rattle.std.proofs.lemmas.List.{get_or-set_other, get_or-set_same, set-get_or}
@@ -11,9 +11,11 @@ use Rattle.fab_base.specs.declared.operations.Receive.{Receive}
 use Rattle.fab_base.specs.declared.operations.Arrival.{Arrival}
 use Rattle.fab_base.specs.declared.operations.Coming.{Coming}
 use Rattle.fab_base.specs.declared.operations.Coming.TheVariants.{Into as IntoReceive, Keep as KeepIt}
-use Rattle.fab_model.specs.Matching.{is_message, matches, takes, remove_first}
+use Rattle.fab_model.specs.Matching.{matches, takes, remove_first}
+use Rattle.fab_base.specs.Kinds.{is_message}
 use Rattle.fab_model.specs.State.{coming_from, raise}
-use Rattle.fab_model.specs.Arrivals.{is_wanted, taker, newcomer, way_of, heading_message, heading_other, seated as seated_after, shut, stays}
+use Rattle.fab_model.specs.Arrivals.{is_wanted, taker, newcomer, way_of, heading_message, heading_other, shut, stays}
+pub use Rattle.fab_model.proofs.Unchanged.{single_seated}
 use Rattle.fab_match.specs.Signs.{sign_of, fits}
 use Rattle.fab_match.specs.Matcher.{first_id, has_id}
 use Rattle.fab_match.proofs.Showing.{fits-sign_of}
@@ -91,10 +93,6 @@ least_none r e = by r.least refl
     by : (o : Option ℕ) → r.least ≡ o → r.least ≡ None
     by None is = is
     by (Some least) is = absurd (let no : Some _ ≡ None = rw is at e in cc)
-
--- a receive for one message leaves those posted, and is not closing
-pub single_seated : (test : Receive → Bool) (total : ℕ) (r : Receive) (posted : List Receive) → r.least ≡ None → seated_after test total r posted ≡ remove_first test posted
-single_seated test total r posted e = rw (e, seated_after, stays) refl
 
 pub single_shut : (total : ℕ) (r : Receive) → r.least ≡ None → shut total r ≡ []
 single_shut total r e = rw (e, shut) refl

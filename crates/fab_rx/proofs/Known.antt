@@ -11,7 +11,7 @@ use Rattle.fab_base.specs.declared.items.Sign.{Sign}
 use Rattle.fab_base.specs.declared.operations.Receive.{Receive}
 use Rattle.fab_base.specs.declared.operations.Arrival.{Arrival}
 use Rattle.fab_base.specs.declared.operations.Coming.{Coming}
-use Rattle.fab_model.specs.Matching.{is_message}
+use Rattle.fab_base.specs.Kinds.{is_message}
 use Rattle.fab_model.specs.State.{coming_from}
 use Rattle.fab_model.specs.Receiving.{draw_due, draws}
 use Rattle.fab_model.specs.Arrivals.{is_wanted, way_of}

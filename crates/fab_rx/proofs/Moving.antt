@@ -10,9 +10,11 @@ use Rattle.fab_base.specs.declared.items.Sign.{Sign}
 use Rattle.fab_base.specs.declared.operations.Receive.{Receive}
 use Rattle.fab_base.specs.declared.operations.Coming.{Coming}
 use Rattle.fab_base.specs.declared.operations.Coming.TheVariants.{Into as IntoReceive, Keep as KeepIt}
-use Rattle.fab_model.specs.Matching.{is_message, matches, remove_first}
+use Rattle.fab_model.specs.Matching.{matches, remove_first}
+use Rattle.fab_base.specs.Kinds.{is_message}
 use Rattle.fab_model.specs.State.{coming_from}
 use Rattle.fab_model.specs.Arrivals.{heading_message, heading_other, is_wanted, keeping, made_whole, taker, way_of}
+use Rattle.fab_model.proofs.Unchanged.{single_seated}
 use Rattle.fab_match.specs.Signs.{fits}
 use Rattle.fab_match.specs.Matcher.{first_id, without}
 use Rattle.fab_rx.specs.declared.stored.Waiting.{Waiting}
@@ -25,7 +27,7 @@ use Rattle.fab_rx.specs.Arriving.{Arriving, IsSingle, arriving, begun_of, bytes_
 use Rattle.fab_rx.specs.Stored.{IsKept, Sits, waiting_of}
 use Rattle.fab_rx.specs.Homes.{AreMulti, GoesHome, GoesHomeBy, IsHome, is_fed_by, is_part_of}
 use Rattle.fab_rx.proofs.Tying.{IsTaken, retied, taken, tied_both}
-use Rattle.fab_rx.proofs.Keeping.{idle, least_none, row, sits_agrees, single_seated, single_shut}
+use Rattle.fab_rx.proofs.Keeping.{idle, least_none, row, sits_agrees, single_shut}
 use Rattle.fab_rx.proofs.Growing.{kept_other, kept_single}
 use Rattle.fab_rx.proofs.Known.{none_in_row}
 use Rattle.fab_rx.proofs.Sharing.{multi_change, multi_gone}

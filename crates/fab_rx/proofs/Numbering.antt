@@ -9,14 +9,15 @@ use Rattle.fab_base.specs.declared.operations.Receive.{Receive}
 use Rattle.fab_base.specs.declared.operations.Arrival.{Arrival}
 use Rattle.fab_base.specs.declared.operations.Coming.{Coming}
 use Rattle.fab_base.specs.declared.operations.Coming.TheVariants.{Into, Keep, Throw, Request, Answer}
-use Rattle.fab_model.specs.Matching.{is_message, takes, change_first, remove_first}
+use Rattle.fab_model.specs.Matching.{takes, change_first, remove_first}
+use Rattle.fab_base.specs.Kinds.{is_message}
 use Rattle.fab_model.specs.State.{Receiving, coming_from, under_way}
 use Rattle.fab_model.specs.Complete.{filled, filling, is_made_by}
 use Rattle.fab_model.specs.Arrivals.{heading_message, heading_other, is_wanted, keeping, made_whole, taker, way_of}
+use Rattle.fab_model.proofs.Unchanged.{single_seated}
 use Rattle.fab_rx.specs.Arriving.{Arriving, IsSingle, arriving, begun_of, bytes_come, finishing, kept, posting, shared, without_closed}
 use Rattle.fab_rx.specs.Stored.{turned}
 use Rattle.fab_rx.specs.Numbers.{AreBelow, AreDistinct, GoesElsewhere, HaveOtherCalls, IsNumbered}
-use Rattle.fab_rx.proofs.Keeping.{single_seated}
 use Rattle.fab_rx.proofs.Known.{none_in_row}
 
 -- ---- lists of receives

@@ -1,6 +1,6 @@
 -- A message that was kept leaves, from those that are unexpected or from those that are claimed: what is stored stays true.
 use Rattle.std.proofs.Common.{◌≡◌, ◌≢◌, ℕ, ◌+◌, ◌<◌, ◌≤◌, ◌==◌, false, List, [], ◌∷◌, ◌++◌, length, Option, Some, None, get_or, set, refl, sym, ap, subst, ◌∙◌, arith, length-append, length-set}
-use Rattle.std.specs.Prelude.{find, is_some}
+use Rattle.std.specs.Prelude.{find}
 use Rattle.std.specs.Option.{option_map}
 use Rattle.std.specs.List.{AllZip}
 use Rattle.std.proofs.lemmas.List.{set-get_or, set-set}
@@ -11,6 +11,7 @@ use Rattle.fab_base.specs.declared.operations.Receive.{Receive}
 use Rattle.fab_base.specs.declared.operations.Arrival.{Arrival}
 use Rattle.fab_base.specs.declared.operations.Coming.{Coming}
 use Rattle.fab_base.specs.declared.operations.Coming.TheVariants.{Into as IntoReceive, Throw as ThrowIt}
+use Rattle.fab_base.proofs.Lists.{some_within as id_within}
 use Rattle.fab_model.specs.Matching.{takes, remove_first}
 use Rattle.fab_model.specs.State.{Receiving, coming_from}
 use Rattle.fab_model.specs.Receiving.{without_claim, without_first}
@@ -27,7 +28,6 @@ use Rattle.fab_rx.specs.Table.{Cells, at}
 use Rattle.fab_rx.specs.Arriving.{Arriving, IsSingle, begun_of, given, posting}
 use Rattle.fab_rx.specs.Claims.{claiming_first, discarding, dropping, taking, thrown}
 use Rattle.fab_rx.specs.Stored.{AreApart, AreClaimed, GoesBy, IsClaim, IsComing, IsKept, IsKeptAs, IsKeptWay, IsWay, Lies, moved, parcel_of, parcel_without, redirected, seat_of, thrown_on, turned}
-use Rattle.fab_rx.proofs.Tables.{id_within}
 use Rattle.fab_rx.proofs.Tying.{IsTaken, retied_but, tied_push}
 use Rattle.fab_rx.proofs.Apart.{apart_claim, apart_fewer, apart_less, given_up, not_claimed}
 use Rattle.fab_rx.proofs.Keeping.{at_other, lies_agrees, lies_at, lies_set, way_stays, ways_set}
@@ -103,10 +103,6 @@ module _ (parcels : Cells Parcel) (coming : List (Option Begun)) (id : ℕ) (p :
       let from : a.source ≡ p.source = ap (λ (x : Parcel). x.source) equal in
       let bytes : a.bytes ≡ None = ap (λ (x : Parcel). x.bytes) equal ∙ none in
       rw (bytes, from, ← stored) (is ∙ set-set coming p.source None (Some (f b)))
-
-pub not_some : {X : Type 0} (o : Option X) → is_some o ≡ false → o ≡ None
-not_some None e = refl
-not_some (Some x) e = absurd (cc)
 
 -- ---- it leaves
 

@@ -26,9 +26,10 @@ use Rattle.fab_rx.specs.Numbers.{AreBelow, GoesElsewhere, IsNumbered}
 use Rattle.fab_rx.specs.Leaving.{is_meant_at, may_leave_at}
 use Rattle.fab_model.proofs.Firsts.{remove_first-none}
 use Rattle.fab_base.specs.declared.operations.Arrival.{Arrival}
+use Rattle.fab_base.proofs.Lists.{some_within as id_within}
+use Rattle.fab_base.proofs.Numbers.{numbers_differ as eqb-false}
 use Rattle.fab_rx.specs.Homes.{AreMulti, GoesHome, GoesHomeBy, IsFed, IsHome, IsPart, Rests, is_fed_by, is_part_of, no_pairs}
-use Rattle.fab_rx.proofs.Tables.{id_within}
-use Rattle.fab_rx.proofs.Tying.{eqb-false, same_or, retied, retied_but, tied_fresh, tied_push}
+use Rattle.fab_rx.proofs.Tying.{same_or, retied, retied_but, tied_fresh, tied_push}
 use Rattle.fab_rx.proofs.Keeping.{apart, at_other}
 use Rattle.fab_rx.proofs.Apart.{apart_fewer, apart_join, apart_push, apart_rest, not_claimed}
 use Rattle.fab_rx.proofs.Parting.{stored_where_kept}

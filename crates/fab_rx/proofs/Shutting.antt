@@ -22,7 +22,8 @@ use Rattle.fab_rx.specs.Sharing.{IsUsable, is_closed, is_spent, left_by, multi_a
 use Rattle.std.proofs.lemmas.Bool.{eq-eqb}
 use Rattle.std.proofs.lemmas.List.{append-nil}
 use Rattle.fab_base.specs.declared.operations.Receive.{Receive}
-use Rattle.fab_model.specs.Matching.{change_first, is_message, matches, remove_first}
+use Rattle.fab_model.specs.Matching.{change_first, matches, remove_first}
+use Rattle.fab_base.specs.Kinds.{is_message}
 use Rattle.fab_model.specs.State.{Receiving, coming_from, is_into, under_way}
 use Rattle.fab_model.specs.Complete.{filled, filling, is_made_by}
 use Rattle.fab_model.specs.Arrivals.{heading_message, heading_other, is_wanted, made_whole, shut, stays, taker, used_up, way_of}
@@ -119,11 +120,6 @@ module _ (homes : ℕ → Option ℕ) (calls : ℕ → ℕ) (seats : Cells Waiti
 
   pub fed_as : (coming : List (Option Begun)) (comes : List (Option Coming)) → length comes ≡ length coming → ((s : ℕ) → GoesHome homes calls seats (get_or coming s None) (get_or comes s None)) → list_any (is_into r.call) comes ≡ list_any (is_fed_by id) coming
   fed_as coming comes long ways = any_alike (is_into r.call) (is_fed_by id) comes coming long (λ s. fed_alike homes calls seats id r part (get_or coming s None) (get_or comes s None) (ways s))
-
--- what is there where something is
-pub there_is : {X : Type 0} (o : Option X) → is_some o ≡ true → (x : X) × (o ≡ Some x)
-there_is None e = absurd (cc)
-there_is (Some x) e = (x, refl)
 
 -- ---- an item that comes with its first frame
 

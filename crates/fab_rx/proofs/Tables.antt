@@ -1,17 +1,11 @@
 -- A table is what its slab is, and what holds of it stays as values come and go.
-use Rattle.std.proofs.Common.{◌≡◌, ◌≢◌, ℕ, zero, suc, ◌+◌, ◌<◌, ◌≤◌, ◌==◌, Bool, true, false, ◌⊎◌, inl, inr, List, [], ◌∷◌, cond, ◌^◌, length, Option, Some, None, get_or, set, refl, sym, ap, subst, ◌∙◌, arith, length-set}
+use Rattle.std.proofs.Common.{◌≡◌, ◌≢◌, ℕ, ◌+◌, ◌<◌, ◌≤◌, ◌==◌, Bool, true, false, inl, inr, List, cond, ◌^◌, length, Option, Some, None, get_or, set, refl, sym, ap, subst, ◌∙◌, arith, length-set}
 use Rattle.std.specs.Prelude.{IsSome, IsSomeAnd}
-use Rattle.std.proofs.lemmas.Bool.{eq-eqb, eqb-true, eqb-false, ne_eqb}
+use Rattle.std.proofs.lemmas.Bool.{eq-eqb, eqb-true, eqb-false, ne_eqb, cases_lt as side}
 use Rattle.std.proofs.lemmas.List.{ext_get_or, get_or-set_other, get_or-set_same, get_or_past, set-get_or, set-set}
 use Rattle.std.proofs.lemmas.List.FromFn.{get_or-map-range_with_len, length-map-range_with_len}
 use Rattle.slab.specs.Slab.{Slab, Updates, get, slab_len}
 use Rattle.fab_rx.specs.Table.{Cells, IsTable, at, table_of}
-
--- an id that has a value is one of the table
-pub id_within : {T : Type 0} (cells : List (Option T)) (id : ℕ) (x : T) → get_or cells id None ≡ Some x → id < length cells
-id_within [] id x e = absurd (cc)
-id_within (c ∷ cells) zero x e = omega arith
-id_within (c ∷ cells) (suc id) x e = let more = id_within cells id x e in omega arith
 
 pub some_and : {T : Type 0} (P : T → Type 0) (o : Option T) → IsSomeAnd o P → IsSome o
 some_and P None none = absurd none
@@ -24,9 +18,6 @@ same_ids old new id x is few = rw (is, length-set) few
 pub same_ids_if : {T : Type 0} (b : Bool) (old new : Cells T) (id : ℕ) (x : Option T) → new.cells ≡ cond b (set old.cells id x) old.cells → length old.cells ≤ 2 ^ 32 → length new.cells ≤ 2 ^ 32
 same_ids_if true old new id x is few = same_ids old new id x is few
 same_ids_if false old new id x is few = rw is few
-
-side : (id n : ℕ) → (id < n) ⊎ (n ≤ id)
-side id n = grind arith
 
 -- a value that is put and taken out again leaves the cells as they were
 pub undone : {T : Type 0} (old between new : Cells T) (id : ℕ) (x : T) → at old id ≡ None → between.cells ≡ set old.cells id (Some x) → new.cells ≡ set between.cells id None → new.cells ≡ old.cells

@@ -10,7 +10,9 @@ use Rattle.fab_base.specs.declared.items.Want.{Want}
 use Rattle.fab_base.specs.declared.items.Sign.{Sign}
 use Rattle.fab_base.specs.declared.operations.Receive.{Receive}
 use Rattle.fab_base.specs.declared.operations.Coming.TheVariants.{Into as IntoReceive}
-use Rattle.fab_model.specs.Matching.{is_message, matches, change_first, remove_first}
+use Rattle.fab_base.proofs.Lists.{some_within as id_within}
+use Rattle.fab_model.specs.Matching.{matches, change_first, remove_first}
+use Rattle.fab_base.specs.Kinds.{is_message}
 use Rattle.fab_model.specs.State.{coming_from, raise}
 use Rattle.fab_model.specs.Arrivals.{heading_message, is_wanted, seated as seated_after, shut, stays, used_up}
 use Rattle.fab_match.specs.Signs.{fits}
@@ -29,7 +31,6 @@ use Rattle.fab_rx.proofs.Keeping.{none_stored, row, seat_taken}
 use Rattle.fab_rx.specs.Homes.{GoesHome, IsFed, no_pairs}
 use Rattle.fab_rx.specs.Numbers.{IsNumbered}
 use Rattle.fab_match.proofs.Pairs.{has_id-first}
-use Rattle.fab_rx.proofs.Tables.{id_within}
 use Rattle.fab_rx.proofs.Tying.{IsTaken, retied, retied_but, same_or, tied_push}
 use Rattle.fab_rx.proofs.Apart.{apart_claim, apart_fewer, apart_rest, not_claimed}
 use Rattle.fab_rx.proofs.Changing.{changed_first, kept_changed}

@@ -2,12 +2,10 @@
 use Rattle.std.proofs.Common.{◌≡◌, ◌≢◌, ◌⊎◌, inl, inr, ℕ, suc, ◌+◌, ◌==◌, Bool, true, false, List, [], ◌∷◌, ◌++◌, length, map, Option, Some, None, refl, sym, ap, ◌∙◌, arith}
 use Rattle.std.specs.Prelude.{find, is_some}
 use Rattle.std.specs.List.{AllZip}
-use Rattle.std.proofs.lemmas.Bool.{eq-eqb, eqb-true, ne_eqb}
+use Rattle.std.proofs.lemmas.Bool.{eqb-true, ne_eqb}
+use Rattle.fab_base.proofs.Numbers.{numbers_differ as eqb-false}
 use Rattle.fab_model.specs.Matching.{remove_first}
 use Rattle.fab_match.specs.Matcher.{first_id, has_id}
-
-pub eqb-false : (a b : ℕ) → (a == b) ≡ false → a ≢ b
-eqb-false a b e same = let yes : (a == b) ≡ true = eq-eqb a b same in let no : true ≡ false = sym yes ∙ e in cc
 
 -- two numbers are equal or not
 pub same_or : (a b : ℕ) → (a ≡ b) ⊎ (a ≢ b)

@@ -17,7 +17,8 @@ use Rattle.fab_base.specs.declared.operations.Receive.{Receive}
 use Rattle.fab_base.specs.declared.operations.Arrival.{Arrival}
 use Rattle.fab_base.specs.declared.operations.Coming.{Coming}
 use Rattle.fab_base.specs.declared.operations.Coming.TheVariants.{Into, Keep}
-use Rattle.fab_model.specs.Matching.{is_message, takes, remove_first}
+use Rattle.fab_model.specs.Matching.{takes, remove_first}
+use Rattle.fab_base.specs.Kinds.{is_message}
 use Rattle.fab_model.specs.State.{Receiving, coming_from, under_way}
 use Rattle.fab_model.specs.Complete.{filling, is_made_by}
 use Rattle.fab_model.specs.Receiving.{draw_due, goes, joining_posted, without_first}

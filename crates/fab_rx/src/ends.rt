@@ -7,7 +7,7 @@ ghost use Rattle.fab_rx.specs.Homes.{is_fed_by, part_in};
 ghost use Rattle.fab_rx.specs.Results.{last_of};
 
 use crate::cancelling::is_fed;
-use crate::inbox::{Inbox, is_message};
+use crate::inbox::Inbox;
 use crate::multis::{closes, is_closing, multi_at};
 use crate::stored::Begun;
 use fab_base::ItemHead;
@@ -58,7 +58,7 @@ impl<M: Matcher> Inbox<M> {
             coming,
             ..
         } = self;
-        if !is_message(head.kind) {
+        if !head.kind.is_message() {
             return false;
         }
         let Some(id) = matcher.first_posted(&sign_of(source, head)) else {

@@ -1,7 +1,8 @@
 //! The receive half of an endpoint (fi_msg(3), fi_tagged(3)).
 ghost use Rattle.std.specs.Prelude.{◌≡◌, ◌==◌, ◌+◌, ◌<◌, ◌≤◌, ◌^◌, true, false, None, Some, length, IfOk, IfSome, IsSomeAnd, OnOk, OnErr, Option, find, is_some, nat_le, replicate, unwrap_or};
 ghost use Rattle.std.specs.Option.{option_map};
-ghost use Rattle.fab_model.specs.Matching.{is_message, takes};
+ghost use Rattle.fab_model.specs.Matching.{takes};
+ghost use Rattle.fab_base.specs.Kinds.{is_message};
 ghost use Rattle.fab_model.specs.State.{coming_from};
 ghost use Rattle.fab_model.specs.Arrivals.{taker, way_of};
 ghost use Rattle.fab_model.specs.Receiving.{cancellable, without_posted};
@@ -58,15 +59,6 @@ impl<M: Matcher> Model for Inbox<M> {
     ghost invariant = { λ i. IsInbox (M.posted i.matcher) (M.unexpected i.matcher) (M.room i.matcher) i.seats i.parcels i.coming.items i.claims.items (vec_capacity i.claims) i.closing.items (vec_capacity i.closing) i.shares i.past };
 }
 
-pub(crate) fn is_message(kind: Kind) -> bool
-    ensures { result ≡ is_message kind }
-{
-    match kind {
-        Kind::Msg | Kind::TagMsg => true,
-        Kind::WriteReq | Kind::ReadReq | Kind::AtomicReq | Kind::Reply => false,
-    }
-}
-
 impl<M: Matcher> Inbox<M> {
     /// The receive half of an endpoint with so many peers, where so many receives may be posted.
     pub fn new(alloc: Global, peers: u32, most: u32) -> Result<Inbox<M>, NoMemory>
@@ -109,7 +101,7 @@ impl<M: Matcher> Inbox<M> {
     pub fn takes(&self, source: u32, head: &ItemHead) -> bool
         ensures { result ≡ is_some (taker source head.now self.now.rx) }
     {
-        if !is_message(head.kind) {
+        if !head.kind.is_message() {
             return false;
         }
         self.matcher.first_posted(&sign_of(source, head)).is_some()
@@ -150,7 +142,7 @@ impl<M: Matcher> Inbox<M> {
         ensures ok { OnOk result (self.new ≡ arriving source head.now self.old) }
         ensures err { OnErr result (self.new ≡ self.old) }
     {
-        if !is_message(head.kind) {
+        if !head.kind.is_message() {
             return self.gather(source, head);
         }
         if self.match_posted(source, head)? {

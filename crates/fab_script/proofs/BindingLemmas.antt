@@ -17,6 +17,7 @@ use Rattle.fab_base.specs.declared.script.Payload.{Payload}
 use Rattle.fab_base.specs.declared.script.Script.{Script}
 use Rattle.fab_base.specs.declared.status.Why.{Why}
 use Rattle.fab_base.specs.declared.status.Why.TheVariants as why
+use Rattle.fab_base.proofs.Lists.{both_empty}
 use Rattle.fab_model.specs.Negotiation.{is_refused, granted_info, grant_of, grant, size_of as granted_size}
 use Rattle.fab_grammar.specs.declared.settings.Setting.{Setting}
 use Rattle.fab_grammar.specs.declared.settings.Setting.TheVariants.{Peers, Wish, Capabilities, Selective, File}
@@ -86,10 +87,6 @@ none_of (x ∷ xs) e = cc
 unmapped : {B : Type 0} (o : Option ℕ) (f : ℕ → B) → option_map f o ≡ None → o ≡ None
 unmapped None f e = refl
 unmapped (Some n) f e = cc
-
-both_empty : {X : Type 0} (xs ys : List X) → xs ++ ys ≡ [] → (xs ≡ []) × (ys ≡ [])
-both_empty [] ys e = (refl, e)
-both_empty (x ∷ xs) ys e = cc
 
 module _ (payloads : List Payload) (files : List (List ℕ)) where
   line_inside : (test : Bool) (line : Line) (lines : List Line) → is_inside payloads files line.op ≡ test

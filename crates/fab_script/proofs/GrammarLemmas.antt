@@ -14,10 +14,11 @@ use Rattle.fab_script.specs.declared.refused.Refused.TheVariants.{Why as Because
 use Rattle.fab_grammar.specs.Before.{Before, nothing, parts_of}
 use Rattle.fab_words.specs.Rows.{lines_of}
 use Rattle.fab_grammar.specs.Rules.{is_late, why_of, with_line}
-use Rattle.std.proofs.lemmas.Bool.Decides.{nat_tests}
 use Rattle.fab_grammar.proofs.RuleLemmas.{in_time}
 use Rattle.fab_script.specs.Parts.{Holds, Answers}
 use Rattle.fab_grammar.specs.Grammar.{Refusal, script_with, granted, of_peers, read_lines, verdict, then_script, script_said}
+use Rattle.fab_spell.proofs.Saying.{not_late as below}
+use Rattle.fab_spell.proofs.Written.{line_taken, no_line}
 
 -- The lines before are taken: what they say, which the reader has, and what the lines that are left make of it.
 pub record Progress (bytes : List ℕ) (left : ℕ × List (List ℕ)) (reader : Reader) : Type 0 where
@@ -56,14 +57,6 @@ script_without_peers api count reader before h header peers =
     let said : before.settings.peers ≡ None = ap (λ s. s.peers) (sym h.settings) ∙ peers in
     rw (sym h.header, header, said) refl
 
-no_line : (before : Before) (number : ℕ) → read_lines before number [] ≡ Ok before
-unfolding read_lines
-no_line before number = refl
-
-line_taken : (before : Before) (number : ℕ) (line : List ℕ) (lines : List (List ℕ)) → why_of before number line ≡ None → read_lines before number (line ∷ lines) ≡ read_lines (with_line before number line) (number + 1) lines
-unfolding read_lines
-line_taken before number line lines e = rw (e, read_lines) refl
-
 line_refused : (before : Before) (number : ℕ) (line : List ℕ) (lines : List (List ℕ)) (why : Why) → why_of before number line ≡ Some why → read_lines before number (line ∷ lines) ≡ Err (number, why)
 unfolding read_lines
 line_refused before number line lines why e = rw (e, read_lines) refl
@@ -79,10 +72,6 @@ progress_none bytes left reader e h = record {
 
 number_next : (number left next : ℕ) → number ≡ left + 1 → next ≡ left + 1 → number + 1 ≡ next + 1
 number_next number left next n m = omega arith
-
--- a line that breaks no rule is not late
-below : (n : ℕ) → is_late n ≡ false → n ≤ 100000
-below n e = grind (arith, nat_tests)
 
 few_lines : (left number next : ℕ) → number ≡ left + 1 → next ≡ left + 1 → is_late number ≡ false → next ≤ 100000
 few_lines left number next n m late =

@@ -8,6 +8,7 @@ use Rattle.fab_base.specs.declared.caps.Api.{Api}
 use Rattle.fab_base.specs.declared.caps.Hints.{Hints}
 use Rattle.fab_base.specs.declared.caps.Info.{Info}
 use Rattle.fab_base.specs.declared.limits.Size.TheVariants as size
+use Rattle.fab_base.proofs.Bools.{or_false_left as left_false}
 use Rattle.fab_model.specs.Negotiation.{is_refused, granted_info, grant_of, grant, wish_is_refused, is_not_offered, all_caps}
 use Rattle.fab_model.specs.Negotiation.{size_of as granted_size}
 use Rattle.fab_grammar.specs.Grammar.{verdict}
@@ -28,10 +29,6 @@ sized default o = elim o as (λ _. ℕ) [ None ↦ default | Some n ↦ n ]
 
 abbrev is_outside : ℕ → ℕ → Option ℕ → Bool
 is_outside least greatest o = elim o as (λ _. Bool) [ None ↦ false | Some n ↦ ltb n least || ltb greatest n ]
-
-left_false : (a b : Bool) → (a || b) ≡ false → a ≡ false
-left_false true b e = absurd (cc)
-left_false false b e = refl
 
 wished_least : (least greatest default n : ℕ) (b : Bool) → least ≤ default → is_outside least greatest (wished b n) ≡ false → least ≤ sized default (wished b n)
 wished_least least greatest default n true within e = within

@@ -10,6 +10,7 @@ use Rattle.fab_base.specs.declared.caps.Caps.{Caps}
 use Rattle.fab_base.specs.declared.limits.Size.{Size}
 use Rattle.fab_base.specs.declared.limits.Size.TheVariants as size
 use Rattle.fab_base.specs.declared.script.Payload.{Payload}
+use Rattle.fab_base.proofs.Numbers.{eqb_other}
 use Rattle.fab_model.specs.Negotiation.{all_caps, has_any}
 use Rattle.fab_words.specs.Words.{first_of}
 use Rattle.fab_grammar.specs.declared.settings.Setting.{Setting}
@@ -37,9 +38,6 @@ all_settings caps peers lane pool tx rx cq selective = record { caps = caps; pee
 -- the capabilities, where some are asked for
 abbrev pub kept_caps : Caps → Option Caps
 kept_caps caps = cond (has_any caps all_caps) (Some caps) None
-
-eqb_other : (j k : ℕ) → eqb j k ≡ false → eqb k j ≡ false
-eqb_other j k e = grind (arith, nat_tests)
 
 none_of : (k : ℕ) (xs ys : List ℕ) → list_any (λ j. eqb j k) (xs ++ ys) ≡ false → list_any (λ j. eqb j k) ys ≡ false
 none_of k [] ys e = e

@@ -14,6 +14,7 @@ use Rattle.fab_grammar.specs.Capabilities.{cap_name, cap_named, add_names, is_co
 use Rattle.fab_spell.specs.Headings.{caps_word}
 use Rattle.fab_spell.proofs.Commas.{lacks_comma, split_joined, joined_is_word}
 use Rattle.std.proofs.lemmas.Bool.{and_from}
+use Rattle.fab_base.proofs.Bools.{or_false as or_none}
 
 -- each name
 
@@ -114,10 +115,6 @@ with_kept p caps (c ∷ cs) = by (p c) (λ before. with_kept p before cs)
     by : (b : Bool) → ((before : Caps) → with_all before (filter p cs) ≡ with_bits p before cs) → with_all caps (cond b (c ∷ filter p cs) (filter p cs)) ≡ with_bits p (with_bit b c caps) cs
     by true rest = rest (with_cap c caps) ∙ ap (λ before. with_bits p before cs) (sym (with_bit_true c caps))
     by false rest = rest caps ∙ ap (λ before. with_bits p before cs) (sym (with_bit_false c caps))
-
-or_none : (b : Bool) → (b || false) ≡ b
-or_none true = refl
-or_none false = refl
 
 all_bits : (caps : Caps) → with_bits (has caps) no_hints.caps all_caps ≡ caps
 unfolding with_bit

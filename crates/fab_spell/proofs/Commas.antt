@@ -5,6 +5,7 @@ use Rattle.std.specs.List.{list_all, slice_split, onto_first, join_with_byte}
 use Rattle.std.specs.Str.Parse.{AllDigits}
 use Rattle.std.proofs.lemmas.List.Folds.{list_all-append}
 use Rattle.std.proofs.lemmas.Str.Parse.{digit_from_value}
+use Rattle.fab_base.proofs.Bools.{not_true as no_comma}
 use Rattle.fab_words.specs.Rows.{is_filled}
 use Rattle.fab_words.specs.Written.{is_word}
 use Rattle.fab_grammar.specs.Capabilities.{is_comma}
@@ -14,10 +15,6 @@ use Rattle.fab_spell.proofs.Decimals.{decimal_digits}
 -- no byte of the word is a comma
 abbrev pub lacks_comma : List ℕ → Bool
 lacks_comma word = list_all (λ byte. not (is_comma byte)) word
-
-no_comma : (a : Bool) → not a ≡ true → a ≡ false
-no_comma true e = cc
-no_comma false e = refl
 
 split_one : (word : List ℕ) → lacks_comma word ≡ true → slice_split is_comma word ≡ word ∷ []
 split_one [] e = refl

@@ -7,6 +7,7 @@ use Rattle.std.specs.Str.Parse.{digits_value, AllDigits}
 use Rattle.std.proofs.lemmas.Bool.Decides.{nat_tests}
 use Rattle.std.proofs.lemmas.Fmt.{decimal_is_IsNumeral, length-decimal-le}
 use Rattle.std.proofs.lemmas.Str.Parse.{digit_from_value}
+use Rattle.fab_base.proofs.Bools.{and_false as and_none}
 use Rattle.fab_words.specs.declared.misread.Misread.{Misread}
 use Rattle.fab_words.specs.declared.misread.Misread.TheVariants.{Number, Limit}
 use Rattle.fab_words.specs.Words.{only_if, is_numeral, numeral_of, begins_with, number_of, read_number, within, read_up_to, read_index}
@@ -33,10 +34,6 @@ other_digit c e other d = let range = digit_from_value e d in ne_eqb e c (λ s. 
 digits_begin : (c : ℕ) (cs ds : List ℕ) → NoDigit c → AllDigits 10 ds → begins_with (c ∷ cs) ds ≡ false
 digits_begin c cs [] other d = refl
 digits_begin c cs (e ∷ ds) other d = ap (λ b. b && bytes_eq (take (length cs) ds) cs) (other_digit c e other d.0)
-
-and_none : (a : Bool) → (a && false) ≡ false
-and_none true = refl
-and_none false = refl
 
 digits_begin_second : (a c : ℕ) (cs ds : List ℕ) → NoDigit c → AllDigits 10 ds → begins_with (a ∷ c ∷ cs) ds ≡ false
 digits_begin_second a c cs [] other d = refl

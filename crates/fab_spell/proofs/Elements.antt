@@ -141,7 +141,7 @@ value_fits num word n e = by (begins_with (codes "-") word && is_signed num) e
 
 -- bytes of numbers
 
-length-le_bytes : (k n : ℕ) → length (le_bytes k n) ≡ k
+pub length-le_bytes : (k n : ℕ) → length (le_bytes k n) ≡ k
 length-le_bytes zero n = refl
 length-le_bytes (suc k) n = omega (arith, length-le_bytes k (n / 256))
 
@@ -152,7 +152,7 @@ number_of-le_bytes (suc k) n h =
     let rest : n / 256 < 256 ^ k = omega arith in
     omega (arith, number_of-le_bytes k (n / 256) rest)
 
-length-element : (num : Num) (n : ℕ) → length (element num n) ≡ element_size num
+pub length-element : (num : Num) (n : ℕ) → length (element num n) ≡ element_size num
 unfolding element
 length-element num n = length-le_bytes (element_size num) n
 

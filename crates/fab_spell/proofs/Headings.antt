@@ -22,16 +22,11 @@ use Rattle.fab_grammar.proofs.PartLemmas.{and_true}
 use Rattle.fab_spell.specs.Headings.{caps_word, SettingRead, SettingAgain}
 use Rattle.fab_spell.proofs.Decimals.{read_number_again}
 use Rattle.fab_spell.proofs.Numbers.{is_word-decimal}
-use Rattle.fab_spell.proofs.Said.{text_said}
+use Rattle.fab_spell.proofs.Said.{text_said, said_by as made_of, both_said}
 use Rattle.fab_spell.proofs.CapsNames.{caps_again}
 
 alone : (word : List ℕ) → is_word word ≡ true → list_all is_word (word ∷ []) ≡ true
 alone word e = and_from (is_word word) true e refl
-
--- what a part said
-made_of : {A B : Type 0} (f : A → B) (r : Result A Misread) (b : B) → map_ok f r ≡ Ok b → (a : A) × (r ≡ Ok a) × (f a ≡ b)
-made_of f (Ok a) b e = (a, refl, cc)
-made_of f (Err fault) b e = cc
 
 -- sizes
 
@@ -59,12 +54,6 @@ size_again api size (word ∷ []) n e =
 size_again api size (word ∷ next ∷ more) n e = cc
 
 -- payloads
-
-both_said : {A B : Type 0} (a : Result A Misread) (b : Result B Misread) (p : A × B) → (a & b) ≡ Ok p → (a ≡ Ok p.0) × (b ≡ Ok p.1)
-both_said {A} {B} (Ok a) (Ok b) p e = let same : ◌≡◌ {A = A × B} (a, b) p = cc in (ap (λ q. Ok q.0) same, ap (λ q. Ok q.1) same)
-both_said (Ok a) (Err g) p e = cc
-both_said (Err f) (Ok b) p e = cc
-both_said (Err f) (Err g) p e = cc
 
 file_again : (api : Api) (id name : List ℕ) (p : ℕ × List ℕ) → list_all is_word (id ∷ name ∷ []) ≡ true → (read_number id & read_text name) ≡ Ok p → SettingAgain api (a_file p)
 unfolding setting_of payload_setting

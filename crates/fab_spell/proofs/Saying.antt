@@ -14,6 +14,7 @@ use Rattle.fab_base.specs.declared.script.LineOp.{LineOp}
 use Rattle.fab_base.specs.declared.script.Payload.{Payload}
 use Rattle.fab_base.specs.declared.status.Why.{Why}
 use Rattle.fab_base.specs.declared.status.Why.TheVariants as why
+use Rattle.fab_base.proofs.Bools.{not_false}
 use Rattle.fab_words.specs.declared.misread.Misread.{Misread}
 use Rattle.fab_words.specs.declared.misread.Misread.TheVariants.{Number}
 use Rattle.fab_words.specs.Rows.{is_text, words_of}
@@ -86,7 +87,7 @@ one_at_most (Some x) = omega arith
 abbrev pub needed : Before → ℕ
 needed before = some_count before.api + made_count before.settings + length before.payloads + length before.items
 
-not_late : (n : ℕ) → is_late n ≡ false → n ≤ 100000
+pub not_late : (n : ℕ) → is_late n ≡ false → n ≤ 100000
 not_late n e = grind (arith, nat_tests)
 
 -- ---- the numbers of payload files
@@ -372,10 +373,6 @@ words_kept before count [] s w e = λ api may.
     idle api before count (s api may) none.0
 words_kept before count (word ∷ args) s w e =
     version_kept before count (word ∷ args) args (verb_of word) before.api refl s (and_true (is_word word) (list_all is_word args) w).1 e
-
-not_false : (b : Bool) → not b ≡ false → b ≡ true
-not_false true e = refl
-not_false false e = cc
 
 line_kept : (before : Before) (count : ℕ) (line : List ℕ) → AllSaid before count → why_of before (count + 1) line ≡ None → AllSaid (with_line before (count + 1) line) (count + 1)
 unfolding why_of with_line

@@ -9,9 +9,10 @@ use Rattle.std.proofs.lemmas.List.Splits.{slice_split_at, slice_split_none, leng
 use Rattle.std.proofs.lemmas.Slice.Eq.{bytes_eq-Decides}
 use Rattle.fab_base.specs.declared.status.Why.TheVariants as why
 use Rattle.fab_model.specs.Words.{text_of}
-use Rattle.fab_words.specs.Rows.{is_blank, is_filled, is_line_feed, is_comment, is_text, words_if, words_of, blank_split, ends_with_return, without_return, lines_of_parts, lines_of}
+use Rattle.fab_words.specs.Rows.{is_blank, is_filled, is_line_feed, is_comment, is_text, words_if, words_of, blank_split, ends_with_return, lines_of_parts, lines_of}
 use Rattle.fab_words.specs.Words.{first_of}
 use Rattle.fab_words.specs.Written.{is_word, is_row}
+use Rattle.fab_words.proofs.RowLemmas.{parts_more}
 use Rattle.fab_grammar.specs.Before.{Before}
 use Rattle.fab_grammar.specs.Grammar.{read_lines}
 use Rattle.fab_grammar.specs.Reads.{Reads}
@@ -124,10 +125,6 @@ stays : (b : Bool) (line : List ℕ) (cut : List ℕ) → b ≡ false → cond b
 stays true line cut e = cc
 stays false line cut e = refl
 
-parts_more : (part : List ℕ) (parts : List (List ℕ)) → 0 < length parts → lines_of_parts (part ∷ parts) ≡ without_return part ∷ lines_of_parts parts
-parts_more part [] h = absurd (omega arith)
-parts_more part (next ∷ parts) h = refl
-
 first_line_back : (line rest : List ℕ) → is_text line ≡ true → lines_of (line ++ 10 ∷ rest) ≡ line ∷ lines_of rest
 unfolding lines_of
 first_line_back line rest text =
@@ -160,11 +157,11 @@ row_said : (before : Before) (number : ℕ) (row : List (List ℕ)) → is_row r
 unfolding with_line
 row_said before number row e = ap (with_words before number) (words_back row e)
 
-line_taken : (before : Before) (number : ℕ) (line : List ℕ) (lines : List (List ℕ)) → why_of before number line ≡ None → read_lines before number (line ∷ lines) ≡ read_lines (with_line before number line) (number + 1) lines
+pub line_taken : (before : Before) (number : ℕ) (line : List ℕ) (lines : List (List ℕ)) → why_of before number line ≡ None → read_lines before number (line ∷ lines) ≡ read_lines (with_line before number line) (number + 1) lines
 unfolding read_lines
 line_taken before number line lines e = rw (e, read_lines) refl
 
-no_line : (before : Before) (number : ℕ) → read_lines before number [] ≡ Ok before
+pub no_line : (before : Before) (number : ℕ) → read_lines before number [] ≡ Ok before
 unfolding read_lines
 no_line before number = refl
 

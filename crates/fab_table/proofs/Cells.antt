@@ -9,13 +9,14 @@ use lib.ListN.{get_elem?}
 use Rattle.std.specs.Prelude.{Option, Some, None}
 use Rattle.std.proofs.lemmas.Option.{none-some, same_Some}
 use Rattle.atomic_table.proofs.Lists.{at_longer, at_last, one_turn, set_here, set_else}
-use Rattle.fab_wire.specs.Frames.{last_head, MayCome, IsLane}
-use Rattle.fab_wire.proofs.Lanes.{IsLane-push}
+use Rattle.fab_base.proofs.Places.{at_lt, at_end}
+use Rattle.fab_link.specs.Frames.{last_head, MayCome, IsLane}
+use Rattle.fab_link.proofs.Lanes.{IsLane-push}
 use Rattle.fab_table.specs.declared.kinds.Sent.{Sent}
 use Rattle.fab_table.specs.Views.{frame_of, frames_of}
 use Rattle.fab_table.specs.declared.kinds.Slot.{Slot}
 use Rattle.fab_table.specs.Rule.{Homes, Lane, IsShort, IsCell, Says, cell_of, LaneOk}
-use Rattle.fab_table.proofs.Rows.{at_lt, at_shorter, at_end}
+use Rattle.fab_table.proofs.Rows.{at_shorter}
 
 -- two frames less than a lane apart have two cells
 pub apart : (room base a b : ℕ) → a < b + room → b < a + room → a ≢ b → cell_of base room a ≢ cell_of base room b

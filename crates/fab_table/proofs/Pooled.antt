@@ -8,11 +8,12 @@ use lib.ListN.{get_elem?}
 use Rattle.std.specs.Prelude.{Option, Some, None}
 use Rattle.std.proofs.lemmas.Option.{none-some, same_Some}
 use Rattle.atomic_table.proofs.Lists.{at_longer, at_last}
+use Rattle.fab_base.proofs.Places.{at_lt}
 use Rattle.fab_table.specs.declared.kinds.Sent.{Sent}
 use Rattle.fab_table.specs.declared.kinds.Slot.{Slot}
 use Rattle.fab_table.specs.Views.{lane_of, pool_word, pool_home, has_slot}
 use Rattle.fab_table.specs.Rule.{Homes, Home, Lane, Fills, IsBuf, Place, free, claimed, sent, SentOk, PlaceOk, Outstanding, Pools}
-use Rattle.fab_table.proofs.Rows.{at_lt, at_shorter, put, at_put, pair_once}
+use Rattle.fab_table.proofs.Rows.{at_shorter, put, at_put, pair_once}
 use Rattle.fab_table.proofs.Cells.{with_writing, with_opened, with_post, with_take}
 
 abbrev kind : Place → ℕ

@@ -10,9 +10,10 @@ use Rattle.std.proofs.lemmas.Option.{none-some, same_Some}
 use Rattle.atomic_table.specs.Table.{step, keeps, takes, gives, chain, stepped, rest, Allows, carried_after}
 use Rattle.atomic_table.proofs.Lists.{set_else, set_here}
 use Rattle.fab_base.specs.declared.frames.FrameHead.{FrameHead}
-use Rattle.fab_wire.specs.declared.moves.Move.{Move}
-use Rattle.fab_wire.specs.declared.moves.Move.TheVariants.{Take}
-use Rattle.fab_wire.specs.Frames.{last_head, MayCome, IsLane}
+use Rattle.fab_base.proofs.Places.{at_some}
+use Rattle.fab_link.specs.declared.moves.Move.{Move}
+use Rattle.fab_link.specs.declared.moves.Move.TheVariants.{Take}
+use Rattle.fab_link.specs.Frames.{last_head, MayCome, IsLane}
 use Rattle.fab_table.specs.declared.kinds.Command.{Command}
 use Rattle.fab_table.specs.declared.kinds.Sent.{Sent}
 use Rattle.fab_table.specs.declared.kinds.Layout.{Layout}
@@ -24,7 +25,7 @@ use Rattle.fab_table.specs.declared.kinds.View.{View}
 use Rattle.fab_table.specs.Views.{frames_of, freed_one, pool_word, pool_home, has_slot, part_at, out_at, in_at, saw_empty, saw_frame, taken_one, lane_of, put_word, got_word}
 use Rattle.fab_table.specs.Rule.{SaidAt, Fills, FilledAt, IsBuf, sent, free, PlaceOk, Homes, Lane, cell_of, LaneOk, InOk, Ruled}
 use Rattle.fab_table.specs.Plays.{frees_pool, FreesAt, free_view, Sat, in_lane, oldest_cell, new_in_view, take_view, Opens, SawPut, saw_put, takes_frame}
-use Rattle.fab_table.proofs.Rows.{put, at_some, take_next, pair_below}
+use Rattle.fab_table.proofs.Rows.{put, take_next, pair_below}
 use Rattle.fab_table.proofs.Cells.{stays, with_writing, with_opened, with_take, opens, frees}
 use Rattle.fab_table.proofs.Orders.{kept_in, kept_take}
 use Rattle.fab_table.proofs.Pooled.{lane_at, with_lent, pools_look, pools_open, pools_open_slot, pools_take, pools_free}

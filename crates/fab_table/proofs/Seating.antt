@@ -12,6 +12,8 @@ use Rattle.atomic_table.proofs.Lists.{at_set, set_else, set_again}
 use mathlib.Core.List.{IsPrefix}
 use Rattle.std.proofs.Math.ListN.{get_or-append}
 use Rattle.std.proofs.lemmas.List.{take-append-drop, get_or-replicate}
+pub use Rattle.fab_base.proofs.Lists.{all_the_same as same_all}
+use Rattle.fab_base.proofs.Places.{at_end}
 use Rattle.fab_table.specs.declared.kinds.Sent.{Sent}
 use Rattle.fab_table.specs.declared.kinds.Layout.{Layout}
 use Rattle.fab_table.specs.declared.kinds.Slot.{Slot}
@@ -19,11 +21,11 @@ use Rattle.fab_table.specs.declared.kinds.Out.{Out}
 use Rattle.fab_table.specs.declared.kinds.In.{In}
 use Rattle.fab_table.specs.declared.kinds.Part.{Part}
 use Rattle.fab_table.specs.declared.kinds.View.{View}
-use Rattle.fab_wire.specs.Owing.{IsOwed}
+use Rattle.fab_link.specs.Owing.{IsOwed}
 use Rattle.fab_table.specs.Views.{frames_of, pool_word, new_out, new_in, new_part, parts_from, everyone, nobody, only_first, but_first, both, part_at, in_at, lane_of, put_word, got_word, word_count}
 use Rattle.fab_table.specs.Plays.{Sat, learned}
 use Rattle.fab_table.specs.Rule.{free, IsCell, IsBuf, Lane, OutOk, InOk, number, Kept, PartOk, Ruled}
-use Rattle.fab_table.proofs.Rows.{at_end, pick, pair_below}
+use Rattle.fab_table.proofs.Rows.{pick, pair_below}
 use Rattle.fab_table.proofs.Stays.{mine}
 
 reseated : (n room pool : ℕ) (lane : ℕ → Lane) (spot spot' : ℕ → ℕ × ℕ) (j i j' i' : ℕ) (p : Part) → PartOk n room pool lane spot j i p → spot' p.me ≡ (j', i') → PartOk n room pool lane spot' j' i' p
@@ -99,11 +101,6 @@ module _ {A : Type 0} where
   behind_it [] m i d h near = (i, omega arith, near, refl)
   behind_it (x ∷ xs) m zero d h near = absurd (omega arith)
   behind_it (x ∷ xs) m (suc i) d h near = let t = behind_it xs m i d (omega arith) (omega arith) in let e = t.1 in (t.0, omega arith, t.2, t.3)
-
-  pub same_all : (n i : ℕ) (a : A) → get_or (replicate n a) i a ≡ a
-  same_all zero i a = refl
-  same_all (suc n) zero a = refl
-  same_all (suc n) (suc i) a = same_all n i a
 
 there_or : {A : Type 0} (l : List A) (i : ℕ) (d : A) → i < length l → get_elem? (map some l) i ≡ some (some (get_or l i d))
 there_or [] i d h = absurd (omega arith)

@@ -8,7 +8,7 @@ use Rattle.fab_table.specs.declared.kinds.Layout.{Layout}
 use Rattle.fab_table.specs.declared.kinds.Slot.{Slot}
 use Rattle.fab_table.specs.declared.kinds.Out.{Out}
 use Rattle.fab_table.specs.declared.kinds.In.{In}
-use Rattle.fab_wire.specs.declared.moves.Move.{Move}
+use Rattle.fab_link.specs.declared.moves.Move.{Move}
 use Rattle.fab_table.specs.declared.kinds.Part.{Part}
 use Rattle.fab_table.specs.declared.kinds.View.{View}
 use Rattle.fab_table.specs.Views.{new_part, new_out, new_in, part_at, out_at, in_at, with_part, with_out, with_in, lane_of, put_word, got_word}

@@ -12,7 +12,7 @@ use mathlib.Core.List.{IsPrefix}
 use mathlib.Core.Option.{some}
 use lib.ListN.{get_elem?}
 use Rattle.atomic_table.specs.Table.{State}
-use Rattle.fab_wire.specs.Merged.{IsStamped, posts_to, takes_of}
+use Rattle.fab_link.specs.Merged.{IsStamped, posts_to, takes_of}
 use Rattle.fab_table.specs.declared.kinds.Sent.{Sent}
 use Rattle.fab_table.specs.declared.kinds.Layout.{Layout}
 use Rattle.fab_table.specs.declared.kinds.Slot.{Slot}

@@ -10,13 +10,13 @@ use mathlib.Core.Option as maybe
 use mathlib.Core.Option.{some}
 use lib.ListN.{get_elem?}
 use Rattle.atomic_table.specs.Table.{State}
-use Rattle.fab_wire.specs.declared.moves.Move.{Move}
-use Rattle.fab_wire.specs.declared.moves.Move.TheVariants.{Post, Take}
-use Rattle.fab_wire.specs.Frames.{frame, IsLane}
+use Rattle.fab_link.specs.declared.moves.Move.{Move}
+use Rattle.fab_link.specs.declared.moves.Move.TheVariants.{Post, Take}
+use Rattle.fab_link.specs.Frames.{frame, IsLane}
 use Rattle.fab_base.specs.declared.frames.FrameHead.{FrameHead}
-use Rattle.fab_wire.specs.Owing.{begins_reply, IsOwed}
-use Rattle.fab_wire.specs.Merged.{IsStamped, posts_to, takes_of}
-use Rattle.fab_table.specs.declared.kinds.TheConstants.{INLINE_BYTES}
+use Rattle.fab_link.specs.Owing.{begins_reply, IsOwed}
+use Rattle.fab_link.specs.Merged.{IsStamped, posts_to, takes_of}
+use Rattle.fab_base.specs.declared.limits.TheConstants.{INLINE_BYTES}
 use Rattle.fab_table.specs.declared.kinds.Command.{Command}
 use Rattle.fab_table.specs.declared.kinds.Sent.{Sent}
 use Rattle.fab_table.specs.declared.kinds.Layout.{Layout}

@@ -7,8 +7,8 @@ use Rattle.fab_table.specs.declared.kinds.Part.{Part}
 use Rattle.fab_table.specs.declared.kinds.Out.{Out}
 use Rattle.fab_table.specs.declared.kinds.In.{In}
 use Rattle.fab_table.specs.declared.kinds.View.{View}
-use Rattle.fab_table.specs.declared.fabric.Fabric.{Fabric}
-use Rattle.fab_table.specs.declared.fabric.PeerSeat.{PeerSeat}
+use Rattle.fab_table.specs.declared.lane_table.LaneTable.{LaneTable}
+use Rattle.fab_table.specs.declared.lane_table.PeerSeat.{PeerSeat}
 use Rattle.fab_table.specs.Views.{part_at, out_at, in_at}
 use Rattle.fab_table.specs.Plays.{Sat}
 
@@ -22,14 +22,14 @@ view_of_seat p = p.seat.me.0
 abbrev pub carried : PeerSeat → List (ℕ × Slot)
 carried p = p.seat.me.1
 
-abbrev pub IsOf : Fabric → PeerSeat → Type 0
+abbrev pub IsOf : LaneTable → PeerSeat → Type 0
 IsOf f p = p.seat.table_id ≡ f.table.shared.table_id
 
 abbrev pub IsSame : PeerSeat → PeerSeat → Type 0
 IsSame p q = (q.seat.table_id ≡ p.seat.table_id) × (q.seat.id ≡ p.seat.id)
 
 -- the part of the peer `me` is the i-th of the seat
-abbrev pub IsAt : Fabric → PeerSeat → ℕ → ℕ → Type 0
+abbrev pub IsAt : LaneTable → PeerSeat → ℕ → ℕ → Type 0
 IsAt f p i me = (i < length p.seat.me.0.parts) × ((part_at p.seat.me.0 i).me ≡ me) × ((part_at p.seat.me.0 i).peers ≡ f.peers) × (me < f.peers)
 
 -- its i-th part, and the lanes that this peer writes to d and reads of s

@@ -1,7 +1,7 @@
 //! Plain access to the place that a seat has in hand and took last. No step on a word is made here.
 ghost use Rattle.std.specs.Prelude.{◌≡◌, ℕ, ◌≤◌, ◌∷◌, List, length, take, Some};
 ghost use Rattle.atomic_table.specs.Table.{rest};
-ghost use Rattle.fab_table.specs.declared.kinds.TheConstants.{INLINE_BYTES};
+ghost use Rattle.fab_base.specs.declared.limits.TheConstants.{INLINE_BYTES};
 ghost use Rattle.fab_table.specs.declared.kinds.Command.{Command};
 ghost use Rattle.fab_table.specs.declared.kinds.Sent.{Sent};
 ghost use Rattle.fab_table.specs.declared.kinds.Slot.{Slot};
@@ -9,8 +9,8 @@ ghost use Rattle.fab_table.specs.declared.kinds.Slot.TheVariants.{Cell, Pool};
 ghost use Rattle.fab_table.specs.Rule.{Says, IsShort};
 ghost use Rattle.fab_table.specs.Seats.{IsOf, IsSame, carried, view_of_seat, sat, named, written};
 
-use crate::fabric::{Fabric, PeerSeat};
 use crate::kinds::{Command, Slot};
+use crate::lane_table::{LaneTable, PeerSeat};
 use fab_base::{Buf, FrameHead};
 
 /// Writes a command over, with the bytes of a frame that needs no slot.
@@ -24,7 +24,7 @@ fn overwrite(command: &mut Command, number: u64, head: FrameHead, bytes: &[u8])
     command.inline[..bytes.len()].copy_from_slice(bytes);
 }
 
-impl Fabric {
+impl LaneTable {
     /// Writes a command into the cell in hand, with the bytes of a frame that needs no slot.
     pub fn write(
         &self,

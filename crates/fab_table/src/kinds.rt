@@ -1,10 +1,7 @@
 //! What lies in the table, and what a seat knows of it.
-use fab_base::{Buf, Frame, FrameHead};
-use fab_wire::Move;
+use fab_base::{Buf, Frame, FrameHead, INLINE_BYTES};
+use fab_link::Move;
 use std::collections::LinkedList;
-
-/// How many bytes a frame has at most that needs no slot of a pool: its cell has them itself.
-pub const INLINE_BYTES: usize = 64;
 
 /// What a cell of a lane holds: a frame's head, its number, and the pool slot that has its bytes. A
 /// frame of at most [`INLINE_BYTES`] bytes needs no slot: the first bytes of `inline` are its own.

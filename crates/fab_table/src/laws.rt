@@ -8,7 +8,7 @@ ghost use Rattle.fab_table.specs.declared.kinds.Sent.{Sent};
 ghost use Rattle.fab_table.specs.declared.kinds.Slot.{Slot};
 ghost use Rattle.fab_table.specs.declared.kinds.View.{View};
 ghost use Rattle.fab_table.specs.Views.{frames_of, out_at, in_at, part_at};
-ghost use Rattle.fab_wire.specs.Frames.{IsLane};
+ghost use Rattle.fab_link.specs.Frames.{IsLane};
 ghost use Rattle.fab_table.specs.Rule.{CellAt, Owes, Place, Ruled, SaidAt};
 ghost use Rattle.fab_table.specs.Moments.{put, got, cell, IsNumbered, IsPartAt, IsTold, Owns, SlotStands, InStep, FirstOf};
 

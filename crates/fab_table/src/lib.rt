@@ -20,17 +20,17 @@
 //! place in hand (`hand`).
 #![tactic(auto)]
 
-mod fabric;
 mod hand;
 mod kinds;
+mod lane_table;
 mod laws;
 mod making;
 mod rule;
 mod steps;
 mod words;
 
-pub use fabric::{Fabric, PeerSeat};
-pub use kinds::{Command, INLINE_BYTES, In, Layout, Out, Part, Sent, Slot, View};
+pub use kinds::{Command, In, Layout, Out, Part, Sent, Slot, View};
+pub use lane_table::{LaneTable, PeerSeat};
 pub use laws::law_lane_rule;
 pub use making::blank;
 pub use rule::LaneRule;

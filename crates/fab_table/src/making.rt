@@ -5,11 +5,11 @@ ghost use Rattle.fab_table.specs.Rule.{IsCell, IsBuf};
 ghost use Rattle.fab_table.specs.Seats.{IsOf, carried, view_of_seat};
 ghost use Rattle.fab_table.specs.declared.kinds.Slot.TheVariants.{Pool};
 
-use crate::fabric::{Fabric, PeerSeat};
-use crate::kinds::{Command, INLINE_BYTES, Layout, Slot};
+use crate::kinds::{Command, Layout, Slot};
+use crate::lane_table::{LaneTable, PeerSeat};
 use crate::words::count_words;
 use atomic_table::Table;
-use fab_base::{Ack, Buf, FRAME_BYTES, FrameHead, ItemHead, Kind, NoMemory, Outcome};
+use fab_base::{Ack, Buf, FRAME_BYTES, FrameHead, INLINE_BYTES, ItemHead, Kind, NoMemory, Outcome};
 use std::alloc::Global;
 
 /// A command of no frame.
@@ -69,7 +69,7 @@ fn places(alloc: Global, cells: usize, slots: usize) -> Result<Vec<Slot>, NoMemo
     Ok(all)
 }
 
-impl Fabric {
+impl LaneTable {
     /// A table of the lanes between so many peers, with `room` cells each, and of a pool of so many slots
     /// for each peer, and the seat that speaks for all peers.
     pub fn new(
@@ -77,7 +77,7 @@ impl Fabric {
         peers: u64,
         room: u64,
         pool: u64,
-    ) -> Result<(Fabric, PeerSeat), NoMemory>
+    ) -> Result<(LaneTable, PeerSeat), NoMemory>
         requires peers { (0 < peers) × (peers ≤ 64) }
         requires room { (0 < room) × (room ≤ 1024) }
         requires pool { (0 < pool) × (pool ≤ 1024) }
@@ -92,7 +92,7 @@ impl Fabric {
         let about = Layout { peers, room, pool };
         match Table::new(alloc, words.as_slice(), all, &about) {
             Ok((table, seat)) => Ok((
-                Fabric {
+                LaneTable {
                     table,
                     peers,
                     room,

@@ -4,8 +4,8 @@
 ghost use Rattle.std.specs.Prelude.{◌≡◌, ◌≢◌, ℕ, ◌+◌, ◌*◌, ◌<◌, ◌≤◌, ◌^◌, true, false, List, [], ◌∷◌, length, None, Some};
 ghost use Rattle.fab_base.specs.declared.limits.TheConstants.{FRAME_BYTES};
 ghost use Rattle.atomic_table.specs.Table.{rest};
-ghost use Rattle.fab_wire.specs.Frames.{last_head, MayCome};
-ghost use Rattle.fab_table.specs.declared.kinds.TheConstants.{INLINE_BYTES};
+ghost use Rattle.fab_link.specs.Frames.{last_head, MayCome};
+ghost use Rattle.fab_base.specs.declared.limits.TheConstants.{INLINE_BYTES};
 ghost use Rattle.fab_table.specs.declared.kinds.Command.{Command};
 ghost use Rattle.fab_table.specs.declared.kinds.Sent.{Sent};
 ghost use Rattle.fab_table.specs.declared.kinds.Slot.{Slot};
@@ -15,12 +15,12 @@ ghost use Rattle.fab_table.specs.Rule.{said_inline, said_pooled, Says, Fills, Is
 ghost use Rattle.fab_table.specs.Plays.{ClaimsAt, FreesAt, ReservesAt, SawGot, SawPut, learned, next_cell, oldest_cell, slot_home, post_view, take_view, new_out_view};
 ghost use Rattle.fab_table.specs.Seats.{IsOf, IsSame, IsAt, carried, view_of_seat, sat, part_of, out_of, in_of};
 
-use crate::fabric::{Fabric, PeerSeat};
+use crate::lane_table::{LaneTable, PeerSeat};
 use crate::rule::{
     Claims, Cut, Frees, Learns, Leaves, Posts, PostsPooled, Reserves, SeeGot, SeePut, Takes, Whole,
 };
 
-impl Fabric {
+impl LaneTable {
     /// A look at how many frames of the lane to `dest` were given back. Where there is room for one
     /// more, the cell of the next frame comes into hand.
     pub fn look_got(&self, seat: &mut PeerSeat, at: u64, me: u64, dest: u64) -> u64

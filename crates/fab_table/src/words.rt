@@ -2,7 +2,7 @@
 ghost use Rattle.std.specs.Prelude.{◌≡◌, ◌*◌, ◌<◌, ◌≤◌};
 ghost use Rattle.fab_table.specs.Views.{lane_of, put_word, got_word, still_word, pool_word, word_count};
 
-use crate::fabric::Fabric;
+use crate::lane_table::LaneTable;
 
 /// So many words lie from one that threads count in to the next: 128 bytes. Each of them has cache lines of its own so, also where a
 /// processor fetches two at a time: on a line that two words share, each write of the one makes whoever looks at the other wait.
@@ -22,7 +22,7 @@ pub(crate) fn count_words(peers: u64, pool: u64) -> usize
     (peers * peers * LANE + peers * pool * APART) as usize
 }
 
-impl Fabric {
+impl LaneTable {
     /// The word that counts the frames posted to a lane.
     pub(crate) fn put_word(&self, src: u64, dest: u64) -> usize
         requires { (src < self.now.peers) × (dest < self.now.peers) }

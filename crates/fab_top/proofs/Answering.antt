@@ -7,7 +7,7 @@ use Rattle.fab_workloads.specs.declared.workload.Workload.{Workload}
 use Rattle.fab_workloads.specs.Commands.{payload_file, workload_of}
 use Rattle.fab_base.specs.declared.status.Why.{Why}
 use Rattle.fab_top.specs.Checking.{LeadsOn}
-use Rattle.fab_coll_run.specs.Files.{BreaksRules, coll_file}
+use Rattle.fab_command_runs.specs.Files.{BreaksRules, coll_file}
 use Rattle.fab_outside.specs.Commands.{replay_files, script_file}
 use Rattle.fab_outside.specs.Loading.{Files, IsOver, IsUnread, IsWrong}
 use Rattle.fab_top.specs.Runs.{EndsBench, EndsCheck, IsAnswered, IsUnhindered}

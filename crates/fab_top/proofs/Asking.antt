@@ -1,7 +1,7 @@
 -- The names of the files that a command loads.
 use Rattle.std.proofs.Common.{◌≡◌, ℕ, List, Option, Some, inl, inr, refl}
 use Rattle.fab_base.specs.declared.script.Bound.{Bound}
-use Rattle.fab_coll_run.specs.Files.{coll_file}
+use Rattle.fab_command_runs.specs.Files.{coll_file}
 use Rattle.fab_outside.specs.Commands.{replay_files, script_file}
 use Rattle.fab_outside.specs.Loading.{Files, IsRead, LeadsTo, LoadsOnly}
 use Rattle.fab_outside.specs.Outside.{one_more}

@@ -12,15 +12,12 @@ use Rattle.fab_model.specs.Words.{text_of, line_of}
 use Rattle.fab_finish.specs.Joined.{member_actor, member_steps}
 use Rattle.fab_finish.specs.Joined.{Member}
 use Rattle.fab_report.proofs.Blanks.{text_of-append}
+use Rattle.fab_replay.proofs.Parts.{drop_here}
+use Rattle.fab_peer.proofs.Showing.{drop_nil as drop_none}
 
 pub list_all-map : {A B : Type 0} (f : B → Bool) (g : A → B) (xs : List A) → list_all (λ x. f (g x)) xs ≡ list_all f (map g xs)
 list_all-map f g [] = refl
 list_all-map f g (x ∷ xs) = ap (λ b. f (g x) && b) (list_all-map f g xs)
-
-drop_here : {X : Type 0} (xs : List X) (k : ℕ) (d : X) → k < length xs → drop k xs ≡ get_or xs k d ∷ drop (suc k) xs
-drop_here [] k d l = absurd (omega arith)
-drop_here (y ∷ xs) zero d l = refl
-drop_here (y ∷ xs) (suc k) d l = drop_here xs k d (omega arith)
 
 -- the text of the parts from peer k on
 abbrev pub parts_from : ℕ → List Member → List ℕ
@@ -44,10 +41,6 @@ part_written k peers x was now whole l is wrote writes =
     let step : parts_from k peers ≡ part ++ parts_from (k + 1) peers =
     parts_step k peers x l ∙ ap (λ y. text_of (actor_lines k (member_actor y) (member_steps y)) ++ parts_from (k + 1) peers) (sym is) in
     ap (λ text. text ++ parts_from (k + 1) peers) writes ∙ append_assoc was part (parts_from (k + 1) peers) ∙ ap (λ text. was ++ text) (sym step) ∙ wrote
-
-drop_none : {X : Type 0} (k : ℕ) → drop {A = X} k [] ≡ []
-drop_none zero = refl
-drop_none (suc k) = refl
 
 past : {X : Type 0} (xs : List X) (k : ℕ) → length xs ≡ k → drop k xs ≡ []
 past [] k e = drop_none k

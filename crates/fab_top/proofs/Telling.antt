@@ -20,7 +20,7 @@ use Rattle.fab_finish.specs.Joined.{member_actor, member_steps}
 use Rattle.fab_finish.specs.Joined.{AreCleared}
 use Rattle.fab_finish.specs.Joined.{Member}
 use Rattle.fab_answer.specs.Laws.{nothing_posted}
-use Rattle.fab_headline.specs.Headline.{Headline}
+use Rattle.fab_laws.specs.Headline.{Headline}
 use Rattle.fab_top.specs.Runs.{Reports, ComesToRest}
 
 none_posted : (all : List Actor) → AreCleared all → nothing_posted all ≡ true

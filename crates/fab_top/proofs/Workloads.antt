@@ -3,8 +3,8 @@ use Rattle.std.proofs.Common.{◌≡◌, ◌<◌, ◌≤◌, ℕ, List, Bool, tr
 use Rattle.fab_base.specs.declared.script.Bound.{Bound}
 use Rattle.fab_base.specs.declared.script.Conf.{Conf}
 use Rattle.fab_model.specs.Replay.{Lawful, replayed, at_rest, all_done}
-use Rattle.fab_phases.specs.Phases.{IsSized}
-use Rattle.fab_coll_run.proofs.Rounds.{sized_by}
+use Rattle.fab_rounds.specs.Phases.{IsSized}
+use Rattle.fab_command_runs.proofs.Rounds.{sized_by}
 use Rattle.fab_workloads.specs.declared.workload.Workload.{Workload}
 use Rattle.fab_workloads.specs.declared.workload.Workload.TheVariants.{Pingpong, Bandwidth, Generated}
 use Rattle.fab_workloads.specs.Commands.{IsWithin}

@@ -1,9 +1,9 @@
 -- Words that are no command.
 --     IsNoCommand words      the words are of no form: none of `script`, `info`, `replay`, `window` and `coll`, nor that of a workload (`pingpong`, `bandwidth` or `gen`)
 use Rattle.std.specs.Prelude.{◌≡◌, ℕ, List, None}
-use Rattle.fab_coll_run.specs.Files.{coll_file}
+use Rattle.fab_command_runs.specs.Files.{coll_file}
 use Rattle.fab_outside.specs.Commands.{info_caps, replay_files, script_file}
-use Rattle.fab_window_run.specs.Commands.{window_of}
+use Rattle.fab_command_runs.specs.Commands.{window_of}
 use Rattle.fab_workloads.specs.Commands.{workload_of}
 
 abbrev pub IsNoCommand : List (List ℕ) → Type 0

@@ -17,7 +17,7 @@ use Rattle.std.specs.Io.KnownBytes.{append_known}
 use Rattle.std.specs.List.{list_all}
 use Rattle.fab_answer.specs.Answer.{answer as answer_of}
 use Rattle.fab_answer.specs.Laws.{nothing_posted}
-use Rattle.fab_headline.specs.Headline.{Headline}
+use Rattle.fab_laws.specs.Headline.{Headline}
 use Rattle.fab_answer.specs.Settled.{is_settled}
 use Rattle.fab_base.specs.Counts.{Rose}
 use Rattle.fab_base.specs.declared.caps.Api.TheVariants.{Two}
@@ -38,9 +38,9 @@ use Rattle.fab_outside.specs.Commands.{script_file, info_caps, replay_files}
 use Rattle.fab_top.specs.Commands.{IsNoCommand}
 use Rattle.fab_outside.specs.Info.{info_text, offer}
 use Rattle.fab_outside.specs.Loading.{Files, IsOver, IsRead, IsWhole, IsWrong, LeadsTo}
-use Rattle.fab_coll_run.specs.Files.{BreaksRules, IsDue, coll_file}
-use Rattle.fab_window_run.specs.declared.asked.Asked.{Asked}
-use Rattle.fab_window_run.specs.Commands.{asked_text, window_of}
+use Rattle.fab_command_runs.specs.Files.{BreaksRules, IsDue, coll_file}
+use Rattle.fab_command_runs.specs.declared.asked.Asked.{Asked}
+use Rattle.fab_command_runs.specs.Commands.{asked_text, window_of}
 use Rattle.fab_workloads.specs.declared.workload.Workload.{Workload}
 use Rattle.fab_workloads.specs.Bench.{bench_line}
 use Rattle.fab_workloads.specs.Commands.{payload_file, workload_of}

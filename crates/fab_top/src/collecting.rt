@@ -4,14 +4,14 @@ ghost use Rattle.std.specs.Io.KnownBytes.{append_known};
 ghost use Rattle.fab_base.specs.Counts.{Rose};
 ghost use Rattle.fab_base.specs.declared.status.Status.TheVariants.{Done, ScriptRefused, TooLong, ReadFault, WriteFault};
 ghost use Rattle.fab_base.specs.declared.status.Why.{Why};
-ghost use Rattle.fab_coll_run.specs.Files.{BreaksRules, IsDue};
+ghost use Rattle.fab_command_runs.specs.Files.{BreaksRules, IsDue};
 ghost use Rattle.fab_outside.specs.Loading.{IsOver};
 ghost use Rattle.fab_outside.specs.Outside.{one_more};
 ghost use Rattle.fab_top.specs.Runs.{EndsCheck, IsSilent};
 
 use crate::checking::write_line;
 use fab_base::{Gate, Status, Text};
-use fab_coll_run::text_of_file;
+use fab_command_runs::text_of_file;
 use fab_outside::{Depot, Sink};
 use std::alloc::Global;
 use std::sync::Wait;

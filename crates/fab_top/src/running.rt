@@ -3,7 +3,7 @@ ghost use Rattle.std.specs.Prelude.{◌≡◌, ◌≢◌, ◌<◌, ◌≤◌, �
 ghost use Rattle.std.specs.Io.KnownBytes.{append_known};
 ghost use Rattle.std.specs.List.{All};
 ghost use Rattle.fab_finish.specs.Joined.{start};
-ghost use Rattle.fab_phases.specs.Phases.{IsSized};
+ghost use Rattle.fab_rounds.specs.Phases.{IsSized};
 ghost use Rattle.fab_base.specs.declared.caps.Api.TheVariants.{Two};
 ghost use Rattle.fab_base.specs.declared.status.Status.TheVariants.{Done, Stuck, Usage, ScriptRefused, TooLong, ReadFault, WriteFault};
 ghost use Rattle.fab_base.specs.declared.status.Why.{Why};
@@ -14,7 +14,7 @@ ghost use Rattle.fab_top.specs.Commands.{IsNoCommand};
 ghost use Rattle.fab_outside.specs.Info.{info_text, offer};
 ghost use Rattle.fab_outside.specs.Loading.{IsOver, IsUnloaded, LoadsOnly};
 ghost use Rattle.fab_top.specs.Runs.{Reports, ComesToRest, AskFor, IsBegun, IsBench, IsRefused, IsReport, IsText, IsWritten, EndsText, IsLoaded, EndsBench, IsUnhindered, IsAnswered, IsSilent, MayStick, NeverSticks, WritesReport, AsksNone, IsNoWorkload};
-ghost use Rattle.fab_window_run.specs.Commands.{asked_text, IsWithin as IsWindow, window_of};
+ghost use Rattle.fab_command_runs.specs.Commands.{asked_text, IsWithin as IsWindow, window_of};
 ghost use Rattle.fab_workloads.specs.Bench.{bench_line};
 ghost use Rattle.fab_workloads.specs.Commands.{IsWithin, payload_file, workload_of};
 ghost use Rattle.fab_workloads.specs.Script.{bound_of};
@@ -24,17 +24,15 @@ use crate::collecting::carry_out_rounds;
 use crate::whole::{all_done, report};
 use fab_answer::laws::law_one_answer;
 use fab_base::{Bound, Buf, Caps, Gate, NoMemory, Status, Text};
-use fab_coll_run::coll_file;
-use fab_headline::law_headline;
+use fab_command_runs::{Asked, coll_file, machines, window_of, window_text};
+use fab_laws::law_headline;
 use fab_outside::commands::{info_caps, replay_files, script_file};
 use fab_outside::info::info_text;
 use fab_outside::loading::{load_file, load_script};
 use fab_outside::{Clock, Depot, Failed, Sink, write_all};
 use fab_peer::calls::Machinery;
-use fab_peer_machines::machines;
-use fab_phases::scripts::{ready_bound, run_ready};
+use fab_rounds::scripts::{ready_bound, run_ready};
 use fab_rounds::starting::Buffers;
-use fab_window_run::{Asked, window_of, window_text};
 use fab_workload_laws::laws::law_workloads_done;
 use fab_workloads::{Workload, bench_line, bound, payload_file, workload_of};
 use std::alloc::Global;
@@ -327,8 +325,8 @@ where
 /// last ([`window_text`]). What is added is drawn from NUMBER, so of the same words it always writes the same text. Each
 /// peer tells the gate when it begins and ends, with round 0; the rounds of the other commands are numbered from 1.
 ///
-/// `coll FILE` loads FILE, a file of rounds of collectives (fi_collective(3)) in the grammar of [`fab_coll::read_rounds`], runs
-/// the script of its rounds ([`fab_coll::plan`]) as `script FILE` runs a script, and writes of each rank what it makes of
+/// `coll FILE` loads FILE, a file of rounds of collectives (fi_collective(3)) in the grammar of [`fab_workloads::read_rounds`], runs
+/// the script of its rounds ([`fab_workloads::plan`]) as `script FILE` runs a script, and writes of each rank what it makes of
 /// each round ([`fab_fold::outcome`]): of the same file it always writes the same text, and no run of it ends at `Stuck`.
 ///
 /// The peers of a script take their turns in rounds, each peer in a thread of its own over lock-free lanes, until a round

@@ -2,13 +2,11 @@
 use Rattle.std.proofs.Common.{◌≡◌, ℕ, zero, suc, ◌<◌, ◌≤◌, Bool, true, false, ◌&&◌, ◌==◌, if◌then◌else◌, Some, refl, sym, ap, ◌∙◌, subst, arith}
 use Rattle.std.specs.Prelude.{nat_lt}
 use Rattle.std.proofs.lemmas.Bool.{eq-eqb, eqb-true, ltb-true, ltb-false}
+use Rattle.std.proofs.lemmas.Option.{same_Some}
 use Rattle.fab_topology.specs.declared.kinds.Topology.{Topology}
 use Rattle.fab_topology.specs.Rounds.{hears, round_from, rounds_of, source_of}
 use Rattle.fab_topology.specs.Laws.{AreRanks, EachIsFound, EachIsFrom}
 use Rattle.fab_topology.proofs.Pairs.{each_is_once}
-
-some_same : (n k : ℕ) → Some n ≡ Some k → n ≡ k
-some_same n k is = cc (is)
 
 pub each_is_from : EachIsFrom
 each_is_from topology p r s zero k is = absurd (cc (is))
@@ -17,7 +15,7 @@ each_is_from topology p r s (suc n) k is = by (hears topology p r n) (source_of 
     by : (h e : Bool) → hears topology p r n ≡ h → (source_of topology p r n == s) ≡ e
         → (round_from topology p r s n ≡ Some k → (k < n) × (hears topology p r k ≡ true) × (source_of topology p r k ≡ s))
         → (if h && e then Some n else round_from topology p r s n) ≡ Some k → (k < suc n) × (hears topology p r k ≡ true) × (source_of topology p r k ≡ s)
-    by true true heard same less is = let at = some_same n k is in
+    by true true heard same less is = let at = same_Some n k is in
         (omega arith, subst (λ (k : ℕ). hears topology p r k ≡ true) at heard, subst (λ (k : ℕ). source_of topology p r k ≡ s) at (eqb-true (source_of topology p r n) s same))
     by true false heard same less is = let l = less is in let below = l.0 in (omega arith, l.1, l.2)
     by false e heard same less is = let l = less is in let below = l.0 in (omega arith, l.1, l.2)

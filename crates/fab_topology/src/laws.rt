@@ -24,8 +24,8 @@ pub fn law_rounds()
 
 /// No rank is done before all have begun, or before the root has where one has something for all.
 ///
-/// This is so in each run in which a message that came was sent by a rank that had begun, once those came that it waits for: whoever
-/// then has begun and got the message of each round in which it hears, is done after all have begun.
+/// It is a law of runs in which a rank sends a message only once it has begun, and once those came that the message waits for
+/// (`waits_for`). There, if a rank has begun and got the message of each round in which it hears, all have begun, or the root has.
 pub fn law_begun()
     ensures begun { AllBegun }
 {}

@@ -1,18 +1,19 @@
 -- What a fence holds back has to wait, after each call; and how many operations are deferred.
-use Rattle.std.proofs.Common.{◌≡◌, ◌≢◌, ℕ, ◌+◌, Bool, true, false, not, cond, List, [], ◌∷◌, ◌++◌, length, count_by, Option, Some, None, find, refl, sym, ap, subst, ◌∙◌, arith}
-use Rattle.std.proofs.lemmas.List.Sums.{sum_by-cons}
+use Rattle.std.proofs.Common.{◌≡◌, ◌≢◌, ℕ, ◌+◌, Bool, true, false, [], ◌∷◌, ◌++◌, length, Option, Some, None, refl, sym, ap, subst, ◌∙◌}
 use Rattle.fab_base.specs.declared.items.ItemHead.{ItemHead}
 use Rattle.fab_base.specs.declared.operations.Operation.{Operation}
 use Rattle.fab_base.specs.declared.operations.Held.{Held}
+use Rattle.fab_base.proofs.Lists.{all_the_same as replicate_get}
 use Rattle.fab_model.specs.Matching.{remove_first}
 use Rattle.fab_model.specs.State.{Transmitting, held_for}
 use Rattle.fab_model.specs.Sending.{AreFenced, accepting, answering, ending, is_busy, let_out, transmitting, going_on as goes_on}
 use Rattle.fab_model.proofs.Fences.{letting_waits}
+use Rattle.fab_model.proofs.Firsts.{not_found as removed_none}
 use Rattle.fab_tx.specs.Transit.{answered, finds_answered, nothing_transmitted, transmitted}
 use Rattle.fab_tx.specs.Stored.{is_for, is_some_live, mine}
 use Rattle.fab_tx.proofs.Ops.{busy_is, mine_elsewhere, remove_elsewhere}
 use Rattle.fab_tx.proofs.Steps.{item_its, transmitted_none, transmitted_some}
-use Rattle.fab_tx.proofs.Answering.{answer_its, answered_none, answered_some, replicate_get}
+use Rattle.fab_tx.proofs.Answering.{answer_its, answered_none, answered_some}
 
 pub fenced_nothing : (peers : ℕ) → AreFenced (nothing_transmitted peers)
 fenced_nothing peers d = ap (let_out false) (replicate_get peers d [])
@@ -22,14 +23,6 @@ unfolding accepting
 fenced_accepting d h tx waits = letting_waits d (held_for tx d ++ h ∷ []) (record tx { ops = tx.ops + 1 }) (λ k differ. waits k)
 
 -- ---- an operation ends
-
-removed_none : {X : Type 0} (test : X → Bool) (xs : List X) → find test xs ≡ None → remove_first test xs ≡ xs
-removed_none test [] e = refl
-removed_none test (x ∷ xs) e = by (test x) refl (λ rest. removed_none test xs rest)
-  where
-    by : (b : Bool) → test x ≡ b → (find test xs ≡ None → remove_first test xs ≡ xs) → remove_first test (x ∷ xs) ≡ x ∷ xs
-    by true is more = let no : Some x ≡ None = rw is at e in absurd (cc)
-    by false is more = rw (is, remove_first) (ap (λ ys. x ∷ ys) (more (rw is at e)))
 
 -- for other peers as many are under way as before
 module _ (d : ℕ) (test : Operation → Bool) (its : (o : Operation) → test o ≡ true → is_for d o ≡ true) (tx u : Transmitting) (live : u.live ≡ remove_first test tx.live) (held : u.held ≡ tx.held) (waits : AreFenced tx) where
@@ -60,13 +53,3 @@ fenced_answered source reply tx waits = by (finds_answered source reply tx) refl
     by : (o : Option Operation) → finds_answered source reply tx ≡ o → AreFenced (answered source reply tx)
     by None e = subst AreFenced (sym (answered_none tx source reply e)) waits
     by (Some o) e = subst AreFenced (sym (answered_some tx source reply o e)) (fenced_ended source _ (answer_its tx source reply) tx (answering source reply tx) refl refl waits)
-
--- ---- those that do not pass a test
-
-pub count_others : {X : Type 0} (test : X → Bool) (xs : List X) → count_by test xs + count_by (λ x. not (test x)) xs ≡ length xs
-count_others test [] = refl
-count_others test (x ∷ xs) = by (test x) refl (count_others test xs)
-  where
-    by : (b : Bool) → test x ≡ b → count_by test xs + count_by (λ x. not (test x)) xs ≡ length xs → count_by test (x ∷ xs) + count_by (λ x. not (test x)) (x ∷ xs) ≡ length (x ∷ xs)
-    by true e more = let a = sum_by-cons (λ x. cond (test x) 1 0) x xs in let b = sum_by-cons (λ x. cond (not (test x)) 1 0) x xs in rw e (omega (arith, more, rw e at a, rw e at b))
-    by false e more = let a = sum_by-cons (λ x. cond (test x) 1 0) x xs in let b = sum_by-cons (λ x. cond (not (test x)) 1 0) x xs in rw e (omega (arith, more, rw e at a, rw e at b))

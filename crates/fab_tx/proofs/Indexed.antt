@@ -11,11 +11,12 @@ use Rattle.std.proofs.lemmas.List.{map-append}
 use Rattle.slab.specs.Slab.{Slab, get}
 use Rattle.fab_base.specs.declared.items.ItemHead.{ItemHead}
 use Rattle.fab_model.specs.Matching.{remove_first}
+use Rattle.fab_model.proofs.Removing.{remove_here}
 use Rattle.fab_tx.specs.declared.awaiting.Numbered.{Numbered}
 use Rattle.fab_tx.specs.declared.stored.Live.{Live}
 use Rattle.fab_tx.specs.Awaiting.{Each, Lacks, IsDistinct, In, IsIndexed, IsNumbered, StillIndexed, answers_in, expects_by, first_in, is_answered_at, answers_one, keys_of, numbers_of}
 use Rattle.fab_tx.proofs.Keys.{distinct_push, Each-append, Each-left, Each-right, Each-map}
-use Rattle.fab_tx.proofs.Ops.{clash, find_past, remove_past, find_none, remove_none, find_here, remove_here}
+use Rattle.fab_tx.proofs.Ops.{clash, find_past, remove_past, find_none, remove_none, find_here}
 
 -- ---- a search
 

@@ -1,5 +1,5 @@
 -- A list, cut at the first element that passes a test.
-use Rattle.std.proofs.Common.{◌≡◌, ◌≢◌, ℕ, ◌+◌, ◌-◌, ◌<◌, ◌≤◌, Bool, true, false, cond, List, [], ◌∷◌, ◌⊎◌, inl, inr, length, take, drop, Some, None, sym, ap, ◌∙◌, refl, arith, length-drop, length-take}
+use Rattle.std.proofs.Common.{◌≡◌, ◌≢◌, ℕ, ◌+◌, ◌-◌, ◌<◌, ◌≤◌, Bool, false, List, [], ◌∷◌, ◌⊎◌, inl, inr, length, take, drop, Some, None, sym, ap, ◌∙◌, refl, arith, length-drop, length-take}
 use Rattle.std.specs.List.{position, position_or_len, before_first, after_first, slice_split, All}
 use Rattle.std.proofs.lemmas.Bool.Decides.{nat_tests}
 use Rattle.std.proofs.lemmas.List.{take_all, drop_all}
@@ -9,14 +9,7 @@ use Rattle.std.specs.Prelude.{Err}
 use Rattle.fab_words.specs.declared.misread.Misread.TheVariants.{Words}
 use Rattle.fab_words.specs.Bytes.{file_range}
 use Rattle.std.proofs.lemmas.Bool.{cases_lt}
-
-picked : (b : Bool) (m i : ℕ) → cond b (Some m) None ≡ Some i → (b ≡ true) × (m ≡ i)
-picked true m i e = (refl, cc)
-picked false m i e = cc
-
-passed_over : (b : Bool) (m : ℕ) → cond b (Some m) None ≡ None → b ≡ false
-passed_over true m e = cc
-passed_over false m e = refl
+use Rattle.fab_base.proofs.Options.{picked, passed_over}
 
 -- the cut at the place that `position` gives
 pub cut_at : (p : ℕ → Bool) (xs : List ℕ) (i : ℕ) → position p xs ≡ Some i → (take i xs ≡ before_first p xs) × (take (length xs - (i + 1)) (drop (i + 1) xs) ≡ after_first p xs) × (i < length xs)

@@ -7,7 +7,7 @@ use Rattle.fab_words.specs.Rows.{is_line_feed, lines_of_parts, without_return, f
 use Rattle.fab_words.proofs.CutLemmas.{parts_of_cut}
 
 -- the first of several parts is a line, without its carriage return
-parts_more : (part : List ℕ) (parts : List (List ℕ)) → 0 < length parts → lines_of_parts (part ∷ parts) ≡ without_return part ∷ lines_of_parts parts
+pub parts_more : (part : List ℕ) (parts : List (List ℕ)) → 0 < length parts → lines_of_parts (part ∷ parts) ≡ without_return part ∷ lines_of_parts parts
 parts_more part [] h = absurd (omega arith)
 parts_more part (next ∷ parts) h = refl
 

@@ -2,7 +2,8 @@
 use Rattle.std.proofs.Common.{◌≡◌, ℕ, ◌<◌, Bool, true, false, cond, List, [], ◌∷◌, inl, inr, length, sym, ap, ◌∙◌, refl, arith}
 use Rattle.std.specs.List.{before_first, after_first, slice_split, filter}
 use Rattle.std.specs.Str.{IsUtf8, is_utf8}
-use Rattle.std.proofs.lemmas.Str.{is_utf8-from_IsUtf8, IsUtf8-from_is_utf8}
+use Rattle.std.proofs.lemmas.Str.{IsUtf8-from_is_utf8}
+pub use Rattle.std.proofs.lemmas.Str.{is_utf8-from_IsUtf8 as is_text_utf8}
 use Rattle.fab_words.specs.Rows.{is_filled, is_blank, blank_split}
 use Rattle.fab_words.proofs.CutLemmas.{parts_of_cut, after_first_shorter}
 
@@ -40,10 +41,6 @@ blank_split_word xs h = blank_split-cut xs ∙ word_before-filled _ _ h
 
 -- a step to the next word
 pub ruleset next_word = (blank_split_nil, blank_split_empty, blank_split_word, after_first_shorter)
-
--- what is UTF-8 passes the test, and else does not
-pub is_text_utf8 : (word : List ℕ) → IsUtf8 word → is_utf8 word ≡ true
-is_text_utf8 word h = is_utf8-from_IsUtf8 word h
 
 pub not_text_utf8 : (word : List ℕ) → (IsUtf8 word → ⊥) → is_utf8 word ≡ false
 not_text_utf8 word h = refuted (is_utf8 word) (λ e. h (IsUtf8-from_is_utf8 word e))

@@ -12,6 +12,9 @@ use Rattle.fab_workload_laws.proofs.Ops.{room_of}
 use Rattle.fab_workload_laws.proofs.Rooms.{Quiet, after, after_append, room_append}
 use Rattle.fab_workload_laws.proofs.Settings.{receive_accepted}
 
+pub nat_within : (n : ℕ) → n ≤ 256 → nat_le n 256 ≡ true
+nat_within n le = grind (arith, nat_tests, le)
+
 module _ (base size : ℕ) (small : size ≤ 16_777_216) where
   -- the n contexts after base + i, the last one first
   abbrev above : ℕ → ℕ → List ℕ
@@ -27,9 +30,6 @@ module _ (base size : ℕ) (small : size ≤ 16_777_216) where
 
   abbrev waits : ℕ → List LineOp
   waits k = wait (base + k) ∷ []
-
-  nat_within : (n : ℕ) → n ≤ 256 → nat_le n 256 ≡ true
-  nat_within n le = grind (arith, nat_tests, le)
 
   -- ---- posting
 

@@ -24,17 +24,13 @@ use Rattle.fab_answer.specs.Partners.{Message, fits, message_to, partner, partne
 use Rattle.fab_answer.specs.Settled.{are_distinct, is_accepted, own_ctx}
 use Rattle.fab_answer.proofs.Counts.{many, only_found}
 use Rattle.fab_answer.proofs.Lists.{Both, In, all_of, never, same_number}
-use Rattle.fab_answer.proofs.answer.Lines.{makes_once}
+use Rattle.fab_answer.proofs.answer.Lines.{makes_once, messages_step}
 use Rattle.fab_answer.proofs.peer.Refusals.{waits_op}
 use Rattle.fab_workloads.specs.Lines.{joined, receive, wait}
 use Rattle.fab_workload_laws.proofs.Ops.{contexts_are, in_unmapped, messages_are, messages_of, ops, receive_from_op, receives_are, split_map, waits_are}
 use Rattle.fab_workload_laws.proofs.Whole.{agree_end, call_done, end, is_call, one_more, wait_done}
 
 -- ---- messages of joined lists
-
-messages_step : (o : Option Message) (xs ys : List Message) → cons_option o (xs ++ ys) ≡ cons_option o xs ++ ys
-messages_step None xs ys = refl
-messages_step (Some m) xs ys = refl
 
 pub messages_of_more : (conf : Conf) (dest at : ℕ) (xs ys : List LineOp)
     → messages_of conf dest at (xs ++ ys) ≡ messages_of conf dest at xs ++ messages_of conf dest (at + length xs) ys

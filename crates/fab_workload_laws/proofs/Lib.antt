@@ -10,3 +10,13 @@ pub mod Rooms
 pub mod Settings
 pub mod Settled
 pub mod Whole
+mod Ranks
+mod Traffic
+mod Rounds
+mod CollDone
+mod Borne
+mod Folds
+pub mod CollEvery
+mod Received
+mod Rows
+pub mod Elements

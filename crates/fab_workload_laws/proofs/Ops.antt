@@ -98,7 +98,7 @@ simple_plain (TRecv ctx source tag ignore len) e = e
 simple_plain (Wait ctx) e = refl
 simple_plain op e = absurd (cc (e))
 
-simple_bound : (b : Bound) (op : LineOp) → is_simple op ≡ true → bind_op b op ≡ op
+pub simple_bound : (b : Bound) (op : LineOp) → is_simple op ≡ true → bind_op b op ≡ op
 simple_bound b (TSend ctx dest tag (Hex bytes) imm level completion fence) e = refl
 simple_bound b (TSend ctx dest tag (Zero len) imm level completion fence) e = refl
 simple_bound b (TSend ctx dest tag (Text bytes) imm level completion fence) e = refl
@@ -107,7 +107,7 @@ simple_bound b (TRecv ctx source tag ignore len) e = refl
 simple_bound b (Wait ctx) e = refl
 simple_bound b op e = absurd (cc (e))
 
-bound_ops : (b : Bound) (lines : List Line) → list_all is_simple (ops lines) ≡ true → ops (map (bind_line b) lines) ≡ ops lines
+pub bound_ops : (b : Bound) (lines : List Line) → list_all is_simple (ops lines) ≡ true → ops (map (bind_line b) lines) ≡ ops lines
 bound_ops b [] e = refl
 bound_ops b (line ∷ lines) e =
     let parts = and_parts _ _ e in
@@ -115,11 +115,11 @@ bound_ops b (line ∷ lines) e =
     let tail = bound_ops b lines parts.1 in
     ap (λ (op : LineOp). op ∷ ops (map (bind_line b) lines)) head ∙ ap (λ (rest : List LineOp). line.op ∷ rest) tail
 
-numbered_ops : (first : ℕ) (xs : List LineOp) → ops (numbered first xs) ≡ xs
+pub numbered_ops : (first : ℕ) (xs : List LineOp) → ops (numbered first xs) ≡ xs
 numbered_ops first [] = refl
 numbered_ops first (op ∷ xs) = ap (λ (rest : List LineOp). op ∷ rest) (numbered_ops (first + 1) xs)
 
-numbered_at : (first : ℕ) (lists : List (List LineOp)) (p : ℕ) → ops (get_or (all_numbered first lists) p []) ≡ get_or lists p []
+pub numbered_at : (first : ℕ) (lists : List (List LineOp)) (p : ℕ) → ops (get_or (all_numbered first lists) p []) ≡ get_or lists p []
 numbered_at first [] p = refl
 numbered_at first (xs ∷ lists) zero = numbered_ops first xs
 numbered_at first (xs ∷ lists) (suc p) = numbered_at (first + length xs) lists p

@@ -2,7 +2,7 @@
 --     Agree bound m           of each peer, the lines left are those after the lines done
 --     one_more                a line that can be done once those before it are, is done
 --     call_done, wait_done    what a call, and a wait, comes to
-use Rattle.std.proofs.Common.{Bool, List, None, Option, Some, [], ap, ap₂, arith, drop, false, get_or, get_or-set_other, get_or-set_same, inl, inr, length, length-append, length-set, map, option_map, refl, set, slice_get, subst, suc, sym, take, true, zero, ℕ, ◌++◌, ◌+◌, ◌<◌, ◌∙◌, ◌∷◌, ◌≡◌, ◌≢◌, ◌≤◌, ◌⊎◌}
+use Rattle.std.proofs.Common.{Bool, List, None, Option, Some, [], ap, ap₂, arith, drop, false, get_or, get_or-set_other, get_or-set_same, inl, inr, length, length-append, length-set, option_map, refl, set, slice_get, subst, sym, take, true, ℕ, ◌++◌, ◌+◌, ◌<◌, ◌∙◌, ◌∷◌, ◌≡◌, ◌≢◌, ◌≤◌, ◌⊎◌}
 use Rattle.std.proofs.Math.Seq.{drop-append_seam, take-append_seam}
 use Rattle.std.proofs.lemmas.Bool.{cases_eq, cases_lt, lt-ltb}
 use Rattle.std.proofs.lemmas.List.{length-map}
@@ -29,6 +29,7 @@ use Rattle.fab_answer.specs.Partners.{Message, partner, receive_at}
 use Rattle.fab_answer.specs.Settled.{refusal}
 use Rattle.fab_answer.proofs.Lists.{drop_at, drop_get, length-upto, map_is, upto_at}
 use Rattle.fab_answer.proofs.answer.Passes.{answering_commutes}
+pub use Rattle.fab_answer.proofs.peers.Reaches.{none_done}
 use Rattle.fab_workloads.specs.Lines.{receive}
 
 -- ---- lists by peer
@@ -37,11 +38,6 @@ pub upto_get : (n p : ℕ) → p < n → slice_get (upto n) p ≡ Some p
 upto_get n p lt =
     let there = slice_get-get_or (upto n) p 0 (omega (arith, lt, length-upto n)) in
     there ∙ ap Some (upto_at n p (get_or (upto n) p 0) there)
-
-pub none_done : {X : Type 0} (xs : List X) (p : ℕ) → get_or (map (λ (x : X). let none : List LineResult = [] in none) xs) p [] ≡ []
-none_done [] p = refl
-none_done (x ∷ xs) zero = refl
-none_done (x ∷ xs) (suc p) = none_done xs p
 
 -- ---- where the answer ends
 

@@ -3,3 +3,8 @@ pub mod Lines
 pub mod Generator
 pub mod Script
 pub mod Bench
+pub mod Rounds
+pub mod Plan
+pub mod Grammar
+pub mod Reading
+pub mod Text

@@ -1,18 +1,16 @@
 -- What is granted is opened: its numbers are those of the offer.
-use Rattle.std.proofs.Common.{◌≡◌, ◌==◌, ◌≤◌, ℕ, Bool, true, false, Option, Some, None, refl, subst}
-use Rattle.std.proofs.lemmas.Bool.{and_from, eq-eqb, le-leb}
+use Rattle.std.proofs.Common.{◌≡◌, ◌≤◌, ℕ, Bool, true, false, Option, Some, None, refl, subst}
+use Rattle.std.proofs.lemmas.Bool.{and_from, le-leb}
 use Rattle.fab_base.specs.Offer.{limits_of}
 use Rattle.fab_base.specs.declared.caps.Api.{Api}
 use Rattle.fab_base.specs.declared.caps.Hints.{Hints}
 use Rattle.fab_base.specs.declared.caps.Info.{Info}
 use Rattle.fab_base.specs.declared.limits.Limits.{Limits}
 use Rattle.fab_base.specs.declared.limits.Size.TheVariants.{Peers, Lane, Pool, Tx, Rx, Cq, Log, Inject}
+use Rattle.fab_base.proofs.Numbers.{same_number as same}
 use Rattle.fab_face.specs.Ports.{is_granted, within}
 use Rattle.fab_info.proofs.Granting.{IsWithin-granted}
 use Rattle.fab_model.specs.Negotiation.{grant, grant_of, granted_info, is_refused}
-
-same : (n : ℕ) → (n == n) ≡ true
-same n = eq-eqb n n refl
 
 is_within : (l : Limits) (n : ℕ) → (l.least ≤ n) × (n ≤ l.greatest) → within l n ≡ true
 is_within l n (least, greatest) = and_from _ _ (le-leb l.least n least) (le-leb n l.greatest greatest)

@@ -39,6 +39,7 @@ pub use Rattle.fab_model.specs.Matching
 pub use Rattle.fab_model.specs.Peers
 pub use Rattle.fab_model.specs.Negotiation
 pub use Rattle.fab_base.specs.Granted
+pub use Rattle.fab_base.specs.Kinds
 pub use Rattle.fab_base.specs.Offer
 pub use Rattle.fab_model.specs.Orders
 pub use Rattle.fab_model.specs.Views
@@ -60,11 +61,11 @@ pub use Rattle.fab_laws.specs.ReceiveLaws
 pub use Rattle.fab_laws.specs.MultiLaws
 pub use Rattle.fab_doings.specs.Doings
 pub use Rattle.fab_doings.specs.Law
-pub use Rattle.fab_records.specs.Recording
-pub use Rattle.fab_records.specs.Driven
+pub use Rattle.fab_doings.specs.Recording
+pub use Rattle.fab_doings.specs.Driven
 pub use Rattle.fab_library_laws.specs.Library
 pub use Rattle.fab_library_laws.specs.Closing
-pub use Rattle.fab_heard.specs.Heard
+pub use Rattle.fab_doings.specs.Heard
 pub use Rattle.fab_library_laws.specs.Hearing
 pub use Rattle.fab_library_laws.specs.Speaking
 pub use Rattle.fab_library_laws.specs.Speakers

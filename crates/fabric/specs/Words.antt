@@ -28,10 +28,17 @@ pub use Rattle.fab_base.specs.declared.operations.Coming.TheVariants.{Into}
 pub use Rattle.fab_face.specs.declared.probing.Probed.{Probed}
 pub use Rattle.fab_base.specs.declared.caps.Info.{Info}
 pub use Rattle.fab_base.specs.declared.items.ItemHead.{ItemHead}
-pub use Rattle.fab_table.specs.declared.fabric.Fabric.{Fabric}
+pub use Rattle.fab_table.specs.declared.lane_table.LaneTable.{LaneTable}
 pub use Rattle.fab_app.specs.declared.clock.Moment.{Moment}
 pub use Rattle.fab_app.specs.declared.until.WaitFault.{WaitFault}
 pub use Rattle.fab_app.specs.declared.until.WaitFault.TheVariants.{ClockFailed, NoMemory as WaitLacks}
 pub use Rattle.fab_app.specs.declared.trying_until.NotAccepted.{NotAccepted}
 pub use Rattle.fab_app.specs.declared.trying_until.TryFault.{TryFault}
 pub use Rattle.fab_app.specs.declared.trying_until.TryFault.TheVariants.{Refused as TryRefused, ClockFailed as TryClockFailed}
+pub use Rattle.fab_collectives.specs.declared.collective.Collective.{Collective}
+pub use Rattle.fab_collectives.specs.declared.collective.Work.{Work}
+pub use Rattle.fab_collectives.specs.declared.group.Group.{Group}
+pub use Rattle.fab_collectives.specs.declared.offers.Message.{Message}
+pub use Rattle.fab_fold.specs.declared.coll.Coll.{Coll}
+pub use Rattle.fab_fold.specs.declared.coll.Coll.TheVariants.{Barrier, Broadcast, Allgather, Allreduce}
+pub use Rattle.fab_fold.specs.declared.coll.TheConstants.{MOST_SHARE}

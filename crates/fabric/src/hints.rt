@@ -13,8 +13,9 @@ use fab_info::getinfo;
 /// completion only where its flags ask for one (FI_SELECTIVE_COMPLETION of fi_endpoint(3)). Receives, reads and looks always do.
 /// And whether threads that wait may sleep, so that whoever posts a frame wakes them.
 ///
-/// Whoever asks for no capability is granted all that is on offer, directed receives among them. Whoever asks for one is
-/// granted no directed receive unless it asks for `Cap::DirectedRecv`, and then the source of each receive is ignored.
+/// Whoever asks for no capability is granted all that are on offer, directed receives (`Cap::DirectedRecv`) among them. Whoever asks
+/// for some is granted directed receives only where they are among these. Where they are not granted, receives take messages of any
+/// sender, and the source that a receive names is ignored.
 #[derive(Clone, Copy, Drop)]
 pub struct Hints {
     pub api: Api,

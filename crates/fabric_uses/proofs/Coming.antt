@@ -5,7 +5,8 @@ use Rattle.std.proofs.lemmas.List.{drop_all}
 use Rattle.std.specs.Prelude.{IfSome, slice_get}
 use Rattle.std.specs.Option.{option_map}
 use Rattle.fabric.specs.Answers.{receive_call}
-use Rattle.fabric.specs.Complete.{at_match, entry_of, fill, has_space, paste, received, truncated}
+use Rattle.fabric.specs.Complete.{entry_of, fill, has_space, paste, received, truncated}
+use Rattle.fabric.specs.Kinds.{at_match}
 use Rattle.fabric.specs.Held.{Seen}
 use Rattle.fabric.specs.Late.{ReceivesLate}
 use Rattle.fabric.specs.Matching.{takes}

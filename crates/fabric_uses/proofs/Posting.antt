@@ -5,7 +5,8 @@ use Rattle.std.proofs.lemmas.Bool.{or_from}
 use Rattle.std.proofs.lemmas.List.Folds.{list_any-append}
 use Rattle.fabric.specs.Answers.{receive_call}
 use Rattle.fabric.specs.Calls.{Post, answer, do_call}
-use Rattle.fabric.specs.Complete.{at_match, book, fill, reply}
+use Rattle.fabric.specs.Complete.{book, fill, reply}
+use Rattle.fabric.specs.Kinds.{at_match}
 use Rattle.fabric.specs.Held.{Held, Seen}
 use Rattle.fabric.specs.Late.{ReceivesLate}
 use Rattle.fabric.specs.Receiving.{Posting, give, joining_posted, post, post_fault, receive_of, taken_by, without_first}

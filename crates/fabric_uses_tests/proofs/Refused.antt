@@ -10,14 +10,15 @@ use Rattle.fab_base.specs.declared.items.Item.{Item}
 use Rattle.fab_base.specs.declared.operations.Held.{Held}
 use Rattle.fabric.specs.Acts.{Act, Did, GoesBy}
 use Rattle.fabric.specs.Answers.{IsFull, Sends}
-use Rattle.fabric.specs.Calls.{Transmit as TransmitCall, answer, do_call}
+use Rattle.fabric.specs.Calls.{Transmit as TransmitCall, do_call}
 use Rattle.fabric.specs.Cleared.{cleared}
 use Rattle.fabric.specs.Held.{Held as Machine, Seen, next_frame}
 use Rattle.fabric.specs.Sending.{Order, accepting, held_back, is_busy, item_of, items_of, let_out, letting_out, operation_of, transmit, transmit_fault, transmit_to}
 use Rattle.fabric.specs.State.{State, accepted_for, held_for, lookup, tally_of}
-use Rattle.fabric.specs.Words.{Arrival, Done, Fault, Inject, LineResult, Msg}
+use Rattle.fabric.specs.Words.{Arrival, Done, Inject, Msg}
 use Rattle.fabric_uses.specs.declared.receiving.Cut.{Cut}
 use Rattle.fabric_uses.specs.Uses.{IsCut, SendsCopy}
+use Rattle.fabric_uses.proofs.Posting.{done as after_answer}
 
 -- ---- what is sent, the clause `sent` of `inject_and_wipe`
 
@@ -54,10 +55,6 @@ module _ (s : State) (order : Order) (t : ℕ) (at : lookup s.av order.dest ≡ 
   last_item : items_for t (transmit s order) ≡ items_for t s ++ item_of s.tx.ops order ∷ []
   unfolding transmit
   last_item = ap (λ (o : Option ℕ). items_for t (elim o [ None ↦ s | Some peer ↦ transmit_to peer s order ])) at ∙ behind
-
-after_answer : (fault : Option Fault) (s after t : State) → answer fault s after ≡ (Done, t) → t ≡ after
-after_answer None s after t is = sym (ap (λ (p : LineResult × State). p.1) is)
-after_answer (Some fault) s after t is = absurd (cc (ap (λ (p : LineResult × State). p.0) is))
 
 after_call : (s t : State) (order : Order) → do_call s (TransmitCall order) ≡ (Done, t) → t ≡ transmit s order
 unfolding do_call

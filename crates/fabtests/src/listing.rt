@@ -8,8 +8,7 @@ use crate::regions::{MR_TEST, MULTI_MR, RDM_RMA_EVENT, RMA_BW};
 use crate::resources::{FLOOD, RESMGMT};
 use crate::tagged::{RDM_TAGGED_PEEK, RECV_CANCEL};
 use fabric::{Api, Calls, EndpointOver, Hints};
-use fabtests_calls::{Row, Verdict, walks};
-use fabtests_threads::{Exchange, exchanges};
+use fabtests_calls::{Exchange, Row, Verdict, exchanges, walks};
 use std::alloc::Global;
 use std::thread::Threads;
 

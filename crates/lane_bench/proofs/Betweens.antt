@@ -2,8 +2,8 @@
 use Rattle.std.proofs.Common.{◌≡◌, ℕ, Some, None, refl, subst}
 use Rattle.std.specs.Prelude.{Option}
 use Rattle.fab_base.specs.declared.frames.FrameHead.{FrameHead}
-use Rattle.fab_wire.specs.Frames.{IsLast}
-use Rattle.fab_wire.specs.Cut.{IsBetweenItems}
+use Rattle.fab_link.specs.Frames.{IsLast}
+use Rattle.fab_link.specs.Cut.{IsBetweenItems}
 use Rattle.fab_link.specs.Meaning.{Outgoing, end_of}
 use Rattle.lane_bench.specs.Between.{AreBetween}
 

@@ -1,7 +1,7 @@
 -- Lanes that end with whole items.
 use Rattle.std.specs.Prelude.{◌≡◌, ℕ, Some}
 use Rattle.fab_base.specs.declared.frames.FrameHead.{FrameHead}
-use Rattle.fab_wire.specs.Frames.{IsLast}
+use Rattle.fab_link.specs.Frames.{IsLast}
 use Rattle.fab_link.specs.Meaning.{Outgoing, end_of}
 
 -- the last frame of each lane, if any, is the last one of its item

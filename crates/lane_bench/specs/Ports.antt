@@ -2,7 +2,7 @@
 --     IsNew peers port        a port of so many peers, all of whose lanes end with a whole item
 --     AreNew peers ports      each of these is one
 use Rattle.std.specs.Prelude.{◌≡◌, ℕ, List, Some, slice_get}
-use Rattle.fab_wire.specs.Cut.{IsBetweenItems}
+use Rattle.fab_link.specs.Cut.{IsBetweenItems}
 use Rattle.fab_link.specs.Meaning.{end_of}
 use Rattle.fab_ring.specs.declared.port.RingPort.{RingPort}
 use Rattle.fab_ring.specs.Ports.{peers_of, out_of}

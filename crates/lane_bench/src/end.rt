@@ -1,9 +1,9 @@
 //! A port that speaks with one other peer.
 ghost use Rattle.std.specs.Prelude.{◌≡◌, ◌<◌, ◌≤◌, ℕ, length, false};
 ghost use Rattle.lane_bench.specs.Between.{AreBetween};
-ghost use Rattle.fab_wire.specs.Frames.{IsSound};
-ghost use Rattle.fab_wire.specs.Owing.{begins_reply};
-ghost use Rattle.fab_wire.specs.Cut.{IsBetweenItems};
+ghost use Rattle.fab_link.specs.Frames.{IsSound};
+ghost use Rattle.fab_link.specs.Owing.{begins_reply};
+ghost use Rattle.fab_link.specs.Cut.{IsBetweenItems};
 ghost use Rattle.fab_link.specs.Meaning.{end_of};
 ghost use Rattle.fab_ring.specs.Ports.{peers_of, out_of};
 

@@ -1,12 +1,14 @@
 -- A collective, turn by turn.
 --     IsHeard work len k read received awaited     the message of round k is awaited, or one of these completions brought it
 --     Partly fixed begun old now                   the rank takes part in this collective, and so it is of each round in which it hears
-use Rattle.std.proofs.Common.{◌≡◌, ℕ, zero, suc, ◌<◌, Bool, true, false, ◌&&◌, ◌==◌, if◌then◌else◌, List, [], ◌∷◌, ◌++◌, length, get_or, Option, None, Some, Ok, inl, inr, ◌⊎◌, refl, sym, ap, ◌∙◌, subst, arith, All}
+use Rattle.std.proofs.Common.{◌≡◌, ◌≢◌, ℕ, zero, suc, ◌<◌, Bool, true, false, ◌&&◌, ◌==◌, if◌then◌else◌, List, [], ◌∷◌, ◌++◌, length, get_or, Option, None, Some, Ok, inl, inr, ◌⊎◌, refl, sym, ap, ◌∙◌, subst, arith, All}
 use Rattle.std.specs.Prelude.{Any, IfOk, IfSome, IsSome, OnOk, Result, slice_index_or, slice_set}
 use Rattle.std.proofs.lemmas.Bool.{eqb-true, eqb-false}
 use Rattle.std.proofs.lemmas.List.{get_or-set_other, length-replicate, length-set}
 use Rattle.std.proofs.lemmas.List.FromFn.{get_or-map-range_with_len}
 use Rattle.std.proofs.lemmas.Grind.{get_or-set_at}
+use Rattle.std.proofs.lemmas.List.Quantifiers.{Any-push as any_last}
+use Rattle.std.proofs.lemmas.Option.{same_Some}
 use Rattle.fabric.specs.Beginning.{IsFresh, hearings, next_of, work_of}
 use Rattle.fabric.specs.Driving.{HasAll}
 use Rattle.fabric.specs.Lengths.{AreWhole}
@@ -14,12 +16,7 @@ use Rattle.fabric.specs.Offering.{awaited_after, brought, bytes_of, is_of, recei
 use Rattle.fabric.specs.Rounds.{round_from}
 use Rattle.fabric.specs.Routes.{hears_in, others_of, rounds_in, source_in, topology_of}
 use Rattle.fabric.specs.Shares.{outcome_of}
-use Rattle.fabric.specs.Words.{Polled}
-use Rattle.fab_collectives.specs.declared.collective.Collective.{Collective}
-use Rattle.fab_collectives.specs.declared.collective.Work.{Work}
-use Rattle.fab_collectives.specs.declared.group.Group.{Group}
-use Rattle.fab_collectives.specs.declared.offers.Message.{Message}
-use Rattle.fab_fold.specs.declared.coll.Coll.{Coll}
+use Rattle.fabric.specs.Words.{Coll, Collective, Group, Message, Polled, Work}
 use Rattle.mini_mpi.specs.Collecting.{Brings, Collects, Completes, DrivesAs, HearsOf, Member, TakesPart, kept_beside}
 use Rattle.mini_mpi.specs.Going.{Rank}
 use Rattle.mini_mpi.specs.Requests.{kept_of}
@@ -32,18 +29,10 @@ any_more P (x ∷ xs) ys (zero, one, below, is, it) = (zero, one, omega arith, i
 any_more P (x ∷ xs) ys (suc at, one, below, is, it) = let more = any_more P xs ys (at, one, omega (arith, below), is, it) in
     let within = more.2 in (suc more.0, more.1, omega (arith, within), more.3, more.4)
 
-any_last : {X : Type 0} (P : X → Type 0) (xs : List X) (x : X) → P x → Any P (xs ++ x ∷ [])
-any_last P [] x it = (zero, x, omega arith, refl, it)
-any_last P (y ∷ xs) x it = let last = any_last P xs x it in let within = last.2 in (suc last.0, last.1, omega (arith, within), last.3, last.4)
-
--- where nothing is awaited, no message is
-none_is : (awaited : List Bool) (k : ℕ) → All (λ a. a ≡ false) awaited → get_or awaited k false ≡ false
-none_is [] k all = refl
-none_is (a ∷ awaited) zero all = all zero false (omega arith)
-none_is (a ∷ awaited) (suc k) all = none_is awaited k (λ j d below. all (suc j) d (omega (arith, below)))
-
-some_same : (n k : ℕ) → Some n ≡ Some k → n ≡ k
-some_same n k is = cc (is)
+none_waits : (awaited : List Bool) (k : ℕ) → All (λ a. a ≡ false) awaited → get_or awaited k false ≢ true
+none_waits [] k all waits = cc waits
+none_waits (a ∷ awaited) zero all waits = let none = all zero false (omega arith) in cc (none, waits)
+none_waits (a ∷ awaited) (suc k) all waits = none_waits awaited k (λ j d below. all (suc j) d (omega (arith, below))) waits
 
 -- ---- one round
 
@@ -55,7 +44,7 @@ module _ (work : Work) (len : ℕ) where
     where
       by : (h e : Bool) → (source_in work len n == source) ≡ e → (round_from (topology_of work len) work.peers work.rank source n ≡ Some k → source ≡ source_in work len k)
           → (if h && e then Some n else round_from (topology_of work len) work.peers work.rank source n) ≡ Some k → source ≡ source_in work len k
-      by true true same less at = sym (eqb-true (source_in work len n) source same) ∙ ap (λ (j : ℕ). source_in work len j) (some_same n k at)
+      by true true same less at = sym (eqb-true (source_in work len n) source same) ∙ ap (λ (j : ℕ). source_in work len j) (same_Some n k at)
       by true false other less at = less at
       by false e other less at = less at
 
@@ -102,7 +91,7 @@ module _ (work : Work) (len k : ℕ) where
 
   pub heard_all : (read : List Polled) (received : List (List ℕ)) (awaited : List Bool) → All (λ a. a ≡ false) awaited → IsHeard read received awaited
       → Any (Brings work len k (slice_index_or received k [])) read
-  heard_all read received awaited all (inl waits) = absurd (let none = none_is awaited k all in cc (none, waits))
+  heard_all read received awaited all (inl waits) = absurd (none_waits awaited k all waits)
   heard_all read received awaited all (inr any) = any
 
 -- ---- turns

@@ -10,8 +10,7 @@ use Rattle.std.proofs.lemmas.Grind.{div_ceil_times}
 use Rattle.std.proofs.lemmas.List.{append-nil, drop-drop, length-append, length-drop, take_min}
 use Rattle.std.proofs.lemmas.List.Folds.{concat-append}
 use Rattle.std.proofs.lemmas.List.FromFn.{map-range_with_len_more}
-use Rattle.fab_fold.specs.declared.coll.Coll.{Coll}
-use Rattle.fab_fold.specs.declared.coll.TheConstants.{MOST_SHARE}
+use Rattle.fabric.specs.Words.{Coll, MOST_SHARE}
 use Rattle.mini_mpi.specs.Collecting.{Collects, CollectsAll, CollectsAt, CollectsBytes, Standing, filled_at, piece_at}
 
 -- another piece begins within the bytes

@@ -25,14 +25,7 @@ use Rattle.fabric.specs.Offering.{awaited_after, brought, failed_after, is_of, r
 use Rattle.fabric.specs.Progresses.{is_flushed}
 use Rattle.fabric.specs.Routes.{hears_in, others_of, rounds_in, source_in}
 use Rattle.fabric.specs.Shares.{outcome_of}
-use Rattle.fabric.specs.Words.{Fault, Polled}
-use Rattle.fab_collectives.specs.declared.collective.Collective.{Collective}
-use Rattle.fab_collectives.specs.declared.collective.Work.{Work}
-use Rattle.fab_collectives.specs.declared.group.Group.{Group}
-use Rattle.fab_collectives.specs.declared.offers.Message.{Message}
-use Rattle.fab_fold.specs.declared.coll.Coll.{Coll}
-use Rattle.fab_fold.specs.declared.coll.Coll.TheVariants.{Barrier}
-use Rattle.fab_fold.specs.declared.coll.TheConstants.{MOST_SHARE}
+use Rattle.fabric.specs.Words.{Barrier, Coll, Collective, Fault, Group, MOST_SHARE, Message, Polled, Work}
 use Rattle.mini_mpi.specs.Going.{Comes, Goes, Rank, rank_of}
 use Rattle.mini_mpi.specs.Requests.{End, kept_of}
 use Rattle.mini_mpi.specs.declared.begun.Begun.{Begun}

@@ -2,8 +2,7 @@
 ghost use Rattle.std.specs.Prelude.{◌≡◌, ◌+◌, ◌-◌, ◌≤◌, true, length, min, Ok, IfOk, OnErr, OnOk};
 ghost use Rattle.fabric.specs.Beginning.{IsFresh};
 ghost use Rattle.fabric.specs.Progresses.{is_flushed};
-ghost use Rattle.fab_fold.specs.declared.coll.Coll.TheVariants.{Broadcast, Allgather, Allreduce};
-ghost use Rattle.fab_fold.specs.declared.coll.TheConstants.{MOST_SHARE};
+ghost use Rattle.fabric.specs.Words.{Allgather, Allreduce, Broadcast, MOST_SHARE};
 ghost use Rattle.mini_mpi.specs.Collecting.{Collects, CollectsAt, CollectsBytes, Completes, Finishes, Passes, filled_at, piece_at, standing_of};
 ghost use Rattle.mini_mpi.specs.Going.{rank_of};
 

@@ -1,7 +1,6 @@
 //! Matches in hashed bins beside matches in lists.
 use crate::stores::{Kept, timed};
-use fab_bins::BinMatcher;
-use fab_match::ListMatcher;
+use fab_match::{BinMatcher, ListMatcher};
 use std::alloc::Global;
 use std::io;
 use std::time::Clock;

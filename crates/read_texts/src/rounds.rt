@@ -1,10 +1,10 @@
 //! What came of a text as a file of rounds.
-ghost use Rattle.fab_coll.specs.Rounds.{AreWithin};
+ghost use Rattle.fab_workloads.specs.Rounds.{AreWithin};
 
 use crate::scripts::{add_numbers, add_refused};
 use fab_base::{Bound, NoMemory};
-use fab_coll::{CollScript, plan, read_rounds};
 use fab_script::print;
+use fab_workloads::{CollScript, plan, read_rounds};
 use std::alloc::Global;
 
 fn add_sizes(out: &mut String, script: CollScript) -> Result<(), NoMemory> {

@@ -2,12 +2,15 @@
 use Rattle.std.proofs.Common.{◌≡◌, ◌<◌, ◌≤◌, ◌+◌, ℕ, zero, suc, Bool, true, false, List, [], ◌∷◌, ◌++◌, length, length-append, map, Some, None, slice_get, ◌⊎◌, inl, inr, refl, sym, ◌∙◌, ap, subst, arith, append_assoc}
 use Rattle.fab_base.specs.declared.items.Item.{Item}
 use Rattle.fab_base.specs.declared.operations.Receive.{Receive}
-use Rattle.fab_model.specs.Matching.{is_message}
+use Rattle.fab_base.specs.Kinds.{is_message}
 use Rattle.fab_laws.specs.Members.{Ahead, In, Never}
-use Rattle.fab_laws.specs.Matched.{Came, Cancelled, CancelledBefore, Event, Got, Lost, Made, Mark, Wish, came, cancelled, closed, gone, made, wish_of, wishes}
+use Rattle.fab_laws.specs.Matched.{Came, Cancelled, CancelledBefore, Event, Got, Lost, Made, Mark, Wish, came, cancelled, closed, made, wish_of, wishes}
 use Rattle.fab_laws.specs.Claimed.{lost}
 use Rattle.fab_laws.specs.MatchingLaws.{GetsRightly, ServesInOrder, TakesInOrder}
-use Rattle.fab_laws.proofs.Lists.{ahead_in, in_back, in_middle, map_append, mapped, never}
+use Rattle.fab_laws.proofs.Lists.{ahead_in, in_back, in_middle, map_append, mapped, never, ahead_middle as ahead_of_rest}
+use Rattle.fab_laws.proofs.matching.Earlier.{closed_got}
+use Rattle.fab_laws.proofs.receiving.Holding.{gone_how as gone_got}
+use Rattle.fab_laws.proofs.receiving.Telling.{splits as in_split}
 use Rattle.fab_merging.proofs.Lists.{member}
 use Rattle.fab_doings.specs.Alike.{AreAlike, mark_at}
 
@@ -20,11 +23,6 @@ which x y (z ∷ zs) (inl e) (inl f) = inl (e ∙ sym f)
 which x y (z ∷ zs) (inl e) (inr j) = inr (inl (inl (e, j)))
 which x y (z ∷ zs) (inr i) (inl f) = inr (inr (inl (f, i)))
 which x y (z ∷ zs) (inr i) (inr j) = elim (which x y zs i j) [ inl e ↦ inl e | inr a ↦ elim a [ inl b ↦ inr (inl (inr b)) | inr b ↦ inr (inr (inr b)) ] ]
-
-pub in_split : {X : Type 0} (x : X) (xs : List X) → In x xs → (front : List X) × (back : List X) × (xs ≡ front ++ x ∷ back)
-in_split x [] i = never i
-in_split x (z ∷ zs) (inl e) = ([], zs, ap (λ y. y ∷ zs) (sym e))
-in_split x (z ∷ zs) (inr i) = let s = in_split x zs i in (z ∷ s.0, s.1, ap (λ ys. z ∷ ys) s.2)
 
 compare : (a b : ℕ) → (a < b) ⊎ ((b < a) ⊎ (a ≡ b))
 compare zero zero = inr (inr refl)
@@ -52,11 +50,6 @@ ahead_rest x y [] back self (inr a) = never (self (inl (refl, (ahead_in x y back
 ahead_rest x y (z ∷ front) back self (inl (e, j)) = never (self (inl (e, in_middle x front back)))
 ahead_rest x y (z ∷ front) back self (inr a) = ahead_rest x y front back (λ b. self (inr b)) a
 
--- in front of what stands behind it
-ahead_of_rest : {X : Type 0} (x y : X) (front back : List X) → In y back → Ahead x y (front ++ x ∷ back)
-ahead_of_rest x y [] back i = inl (refl, i)
-ahead_of_rest x y (z ∷ front) back i = inr (ahead_of_rest x y front back i)
-
 -- ---- events
 
 pub came_append : (es fs : List Event) → came (es ++ fs) ≡ came es ++ came fs
@@ -74,16 +67,6 @@ made_append (Made w ∷ es) fs = ap (λ xs. w ∷ xs) (made_append es fs)
 made_append (Got c m l ∷ es) fs = made_append es fs
 made_append (Lost m ∷ es) fs = made_append es fs
 made_append (Cancelled c ∷ es) fs = made_append es fs
-
-closed_got : (c : ℕ) (x : Mark) (es : List Event) → In (c, x) (closed es) → In (Got c x true) es
-closed_got c x [] i = never i
-closed_got c x (Came m ∷ es) i = inr (closed_got c x es i)
-closed_got c x (Made w ∷ es) i = inr (closed_got c x es i)
-closed_got c x (Got d m true ∷ es) (inl e) = inl (ap (λ (p : ℕ × Mark). Got p.0 p.1 true) e)
-closed_got c x (Got d m true ∷ es) (inr i) = inr (closed_got c x es i)
-closed_got c x (Got d m false ∷ es) i = inr (closed_got c x es i)
-closed_got c x (Lost m ∷ es) i = inr (closed_got c x es i)
-closed_got c x (Cancelled d ∷ es) i = inr (closed_got c x es i)
 
 closed_back : (p : ℕ × Mark) (es fs : List Event) → In p (closed fs) → In p (closed (es ++ fs))
 closed_back p [] fs i = i
@@ -110,17 +93,6 @@ cancelled_before c x (Made w ∷ es) b = cancelled_before c x es b
 cancelled_before c x (Got d m l ∷ es) b = cancelled_before c x es b
 cancelled_before c x (Lost m ∷ es) b = cancelled_before c x es b
 cancelled_before c x (Cancelled d ∷ es) b = inr (cancelled_before c x es b)
-
--- who went somewhere went to a receive, or is lost
-gone_got : (x : Mark) (es : List Event) → In x (gone es) → ((c : ℕ) × (l : Bool) × In (Got c x l) es) ⊎ In x (lost es)
-gone_got x [] i = never i
-gone_got x (Came m ∷ es) i = elim (gone_got x es i) [ inl g ↦ inl (g.0, g.1, inr g.2) | inr l ↦ inr l ]
-gone_got x (Made w ∷ es) i = elim (gone_got x es i) [ inl g ↦ inl (g.0, g.1, inr g.2) | inr l ↦ inr l ]
-gone_got x (Got d m k ∷ es) (inl e) = inl (d, k, inl (ap (λ z. Got d z k) e))
-gone_got x (Got d m k ∷ es) (inr i) = elim (gone_got x es i) [ inl g ↦ inl (g.0, g.1, inr g.2) | inr l ↦ inr l ]
-gone_got x (Lost m ∷ es) (inl e) = inr (inl e)
-gone_got x (Lost m ∷ es) (inr i) = elim (gone_got x es i) [ inl g ↦ inl (g.0, g.1, inr g.2) | inr l ↦ inr (inr l) ]
-gone_got x (Cancelled d ∷ es) i = elim (gone_got x es i) [ inl g ↦ inl (g.0, g.1, inr g.2) | inr l ↦ inr l ]
 
 lost_back : (x : Mark) (es fs : List Event) → In x (lost fs) → In x (lost (es ++ fs))
 lost_back x [] fs i = i

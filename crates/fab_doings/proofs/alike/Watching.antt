@@ -5,7 +5,7 @@ use Rattle.std.proofs.lemmas.Bool.{eq-eqb, eqb-true, lt-ltb}
 use Rattle.fab_base.specs.declared.items.Item.{Item}
 use Rattle.fab_base.specs.declared.operations.Arrival.{Arrival}
 use Rattle.fab_base.specs.declared.operations.Receive.{Receive}
-use Rattle.fab_model.specs.Matching.{is_message}
+use Rattle.fab_base.specs.Kinds.{is_message}
 use Rattle.fab_model.specs.Complete.{is_made_by}
 use Rattle.fab_model.specs.Arrivals.{stays, used_up}
 use Rattle.fab_model.specs.State.{State, coming_from}
@@ -23,12 +23,14 @@ use Rattle.fab_laws.specs.StreamLaws.{arriving}
 use Rattle.fab_laws.proofs.Lists.{any_in, each_in, in_back, in_map, mapped, never}
 use Rattle.fab_laws.proofs.receiving.Acts.{Act, act, subject}
 use Rattle.fab_laws.proofs.receiving.Claiming.{News, got_now}
-use Rattle.fab_laws.proofs.receiving.Holding.{AllKept}
+use Rattle.fab_laws.proofs.receiving.Holding.{AllKept, asked_number as asked_next}
 use Rattle.fab_laws.proofs.receiving.News.{news}
 use Rattle.fab_laws.proofs.receiving.Placing.{Give, Join, Rows, Seat, Stay, rows, seat_of}
 use Rattle.fab_laws.proofs.streams.Told.{Stands}
+use Rattle.fab_laws.proofs.Counts.{in_split as either}
+use Rattle.fab_laws.proofs.receiving.Telling.{splits as in_split}
 use Rattle.fab_doings.specs.Alike.{mark_at}
-use Rattle.fab_doings.proofs.alike.Turn.{came_append, in_split, made_append, which}
+use Rattle.fab_doings.proofs.alike.Turn.{came_append, made_append, which}
 
 pub record Alert (source : ℕ) (arrived : List Item) (past : List Event) (asked : List Receive) (s : State) : Type 0 where
   pub order : (x y : Mark) → Ahead x y (came past) → x.source ≡ y.source → y.place < x.place
@@ -112,33 +114,6 @@ comes v a b (Tail s) = NoneComes (came_happens None a.state b.state)
 comes v a b (Deed.Sent t) = NoneComes (came_happens None a.state b.state)
 comes v a b Draw = NoneComes (came_happens None a.state b.state)
 comes v a b Deed.Read = NoneComes (came_happens None a.state b.state)
-
--- a receive that a deed asks for has the next number
-asked_next : (a b : Peer) (x : Deed) (f : Receive) → In f (asked_by a x b) → f.call ≡ a.state.calls
-asked_next a b (Counts counters) f i = never i
-asked_next a b (Head s) f i = never i
-asked_next a b (Tail s) f i = never i
-asked_next a b (Deed.Sent t) f i = never i
-asked_next a b Draw f i = never i
-asked_next a b Deed.Read f i = never i
-asked_next a b (Makes None) f i = never i
-asked_next a b (Makes (Some c)) f i = go (nat_lt a.state.calls b.state.calls) i
-  where
-    of_call : (d : Call) → In f (asks_for d a.state) → f.call ≡ a.state.calls
-    of_call (Post p) (inl e) = ap (λ (z : Receive). z.call) e
-    of_call (Post p) (inr n) = never n
-    of_call (TakeClaimed buf ctx) (inl e) = ap (λ (z : Receive). z.call) e
-    of_call (TakeClaimed buf ctx) (inr n) = never n
-    of_call d n = never n
-
-    go : (t : Bool) → In f (let xs : List Receive = elim t [ true ↦ asks_for c a.state | false ↦ [] ] in xs) → f.call ≡ a.state.calls
-    go true i = of_call c i
-    go false i = never i
-
-either : {X : Type 0} (x : X) (xs ys : List X) → In x (xs ++ ys) → In x xs ⊎ In x ys
-either x [] ys i = inr i
-either x (z ∷ xs) ys (inl e) = inl (inl e)
-either x (z ∷ xs) ys (inr i) = elim (either x xs ys i) [ inl j ↦ inl (inr j) | inr j ↦ inr j ]
 
 -- ---- one deed of the peer
 

@@ -14,9 +14,9 @@ use Rattle.fab_base.specs.declared.operations.Written.{Written}
 use Rattle.fab_base.specs.declared.peers.Level.{Level}
 use Rattle.fab_base.specs.declared.peers.LineResult.TheVariants.{Done as Accepted}
 use Rattle.fab_base.specs.declared.script.Bound.{Bound}
-use Rattle.fab_wire.specs.declared.moves.Move.TheVariants.{Post as Out, Take as In}
-use Rattle.fab_wire.specs.Frames.{frame, IsSound}
-use Rattle.fab_wire.specs.Cut.{IsItem}
+use Rattle.fab_link.specs.declared.moves.Move.TheVariants.{Post as Out, Take as In}
+use Rattle.fab_link.specs.Frames.{frame, IsSound}
+use Rattle.fab_link.specs.Cut.{IsItem}
 use Rattle.fab_model.specs.Machine.{machine}
 use Rattle.fab_model.specs.Arrivals.{do_head, do_tail}
 use Rattle.fab_model.specs.Calls.{Call, Post, do_call, message}
@@ -30,6 +30,7 @@ use Rattle.fab_laws.proofs.Scripts.{script_opening}
 use Rattle.fab_face.specs.Acts.{posted_to, taken_of}
 use Rattle.fab_merging.specs.Law.{IsFresh, ins_at, outs_at}
 use Rattle.fab_merging.specs.Pasts.{begun}
+use Rattle.fab_merging.proofs.Lists.{no_items}
 use Rattle.fab_merging.proofs.Opening.{start_fresh}
 use Rattle.fab_doings.specs.Doings.{Calls, Did, Doing, DoesBy, Had, Living, Posted, Took, acts_of}
 use Rattle.fab_doings.specs.Law.{AreTold, IsRun, Kept, KeptBy, Past}
@@ -126,9 +127,6 @@ kept1 : KeptBy (begun (resting start [])) x1 sends
 kept1 = record { lives = sender; doings = refl; moves = (Out 0 1 ∷ [], refl, refl); outs = λ d. refl; ins = λ s. refl }
 
 -- ---- both
-
-no_items : (items : List Item) (i : ℕ) (item : Item) → items ≡ [] → slice_get items i ≡ Some item → ⊥
-no_items items i item none e = let is : slice_get {X = Item} [] i ≡ Some item = subst (λ xs. slice_get xs i ≡ Some item) none e in cc (is)
 
 items0 : AreItems (x0.living).held
 unfolding machine

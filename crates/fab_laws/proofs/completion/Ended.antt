@@ -7,11 +7,11 @@ use Rattle.std.proofs.lemmas.Bool.{and_parts, or_parts}
 use Rattle.fab_base.specs.declared.operations.Coming.{Coming}
 use Rattle.fab_base.specs.declared.operations.Coming.TheVariants.{Into, Keep, Throw, Request, Answer}
 use Rattle.fab_base.specs.declared.operations.Held.{Held}
+use Rattle.fab_base.proofs.Bools.{not_true}
 use Rattle.fab_model.specs.State.{State, is_into, under_way}
 use Rattle.fab_model.specs.Complete.{is_made_by}
 use Rattle.fab_laws.specs.Completed.{has_ended, is_among, made_by, receive_stands, send_stands}
 use Rattle.fab_laws.proofs.Counts.{many, many_le, none_counted}
-use Rattle.fab_laws.proofs.Stepping.{not_true}
 use Rattle.fab_laws.proofs.fences.Counted.{held_by, many_in, sending}
 use Rattle.fab_laws.proofs.completion.Places.{into_single}
 use Rattle.fab_laws.proofs.completion.Home.{none_counts}

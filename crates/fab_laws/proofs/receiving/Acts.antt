@@ -24,10 +24,11 @@ use Rattle.fab_base.specs.declared.operations.Coming.TheVariants.{Into, Keep, Th
 use Rattle.fab_base.specs.declared.operations.Operation.{Operation}
 use Rattle.fab_base.specs.declared.operations.Receive.{Receive}
 use Rattle.fab_base.specs.declared.operations.Written.{Written}
-use Rattle.fab_model.specs.Matching.{is_message, is_tagged, remove_first, takes}
+use Rattle.fab_model.specs.Matching.{remove_first, takes}
+use Rattle.fab_base.specs.Kinds.{at_delivery, at_match, is_answered, is_message, is_tagged}
 use Rattle.fab_model.specs.State.{Completions, Receiving, State, called, coming_from, count, lookup, raise, under_way, with_rx, with_tx, write}
-use Rattle.fab_model.specs.Complete.{at_delivery, at_match, book, entry_of, error, fill, filling, is_made_by, let_go, release, release_multi, reply}
-use Rattle.fab_model.specs.Sending.{Order, answering, class_of, do_answer, do_sent, end_with, ending, going_on, is_answered, is_answered_by, success_of, transmit, transmit_to, transmitting}
+use Rattle.fab_model.specs.Complete.{book, entry_of, error, fill, filling, is_made_by, let_go, release, release_multi, reply}
+use Rattle.fab_model.specs.Sending.{Order, answering, class_of, do_answer, do_sent, end_with, ending, going_on, is_answered_by, success_of, transmit, transmit_to, transmitting}
 use Rattle.fab_model.specs.Receiving.{Posting, cancel, cancellable, claim_of, claiming, draw_due, draws, drop_arrival, drop_claimed, give, goes, joining_posted, look, look_at, peeked, post, receive_of, take_claimed, taken_by, taking, want_of, without_claim, without_first, without_posted}
 use Rattle.fab_model.specs.Target.{perform}
 use Rattle.fab_model.specs.Arrivals.{do_draw, do_head, do_request, do_tail, heading_message, heading_other, is_wanted, keeping, made_whole, newcomer, remote_data, remote_event, seated, seating, shut, tail_to, taker, way_of, with_regions}

@@ -18,6 +18,7 @@ use Rattle.fab_model.specs.Arrivals.{keeping, seating}
 use Rattle.fab_model.specs.Calls.{Call, Post, TakeClaimed}
 use Rattle.fab_model.specs.Views.{View}
 use Rattle.fab_model.proofs.Parts.{get_or-set, some_same}
+use Rattle.fab_model.proofs.Grows.{raised as raise_keeps}
 use Rattle.fab_laws.specs.Members.{In}
 use Rattle.fab_laws.specs.Programs.{Deed, Makes, Peer}
 use Rattle.fab_laws.specs.Completed.{held}
@@ -25,8 +26,8 @@ use Rattle.fab_laws.specs.Matched.{Event, Mark, mark_of, tells_message}
 use Rattle.fab_laws.specs.MessageLaws.{IsMessage, asked_by, asks_for}
 use Rattle.fab_laws.specs.Claimed.{Handling}
 use Rattle.fab_laws.specs.ClaimLaws.{WentTo}
-use Rattle.fab_laws.proofs.Counts.{in_many, one}
-use Rattle.fab_laws.proofs.Lists.{Each, always, each_in, each_so, found_in, in_back, in_front, in_map, in_middle, never, raise_here, raise_keeps}
+use Rattle.fab_laws.proofs.Counts.{in_many, one, in_split as in_either}
+use Rattle.fab_laws.proofs.Lists.{Each, always, each_in, each_so, found_in, in_back, in_front, in_map, in_middle, never, raise_here}
 use Rattle.fab_laws.proofs.matching.Moves.{Keeps}
 use Rattle.fab_laws.proofs.replies.Owed.{Lane, OwedAt, is_keep, unwhole_of}
 use Rattle.fab_laws.proofs.streams.Told.{Aside, IsInto, Stands, Told, Truly}
@@ -37,11 +38,6 @@ use Rattle.fab_laws.proofs.receiving.Settling.{Flows, SettledAt, Settling, mark_
 
 abbrev Other : Written → Type 0
 Other w = tells_message w.entry ≡ false
-
-in_either : {X : Type 0} (x : X) (xs ys : List X) → In x (xs ++ ys) → In x xs ⊎ In x ys
-in_either x [] ys i = inr i
-in_either x (z ∷ xs) ys (inl e) = inl (inl e)
-in_either x (z ∷ xs) ys (inr i) = elim (in_either x xs ys i) [ inl j ↦ inl (inr j) | inr j ↦ inr j ]
 
 other_freed : (o : Option Receive) → Each Other (freed o)
 other_freed None = always

@@ -11,7 +11,8 @@ use Rattle.fab_base.specs.declared.operations.Coming.TheVariants.{Into, Keep, Th
 use Rattle.fab_base.specs.declared.operations.Receive.{Receive}
 use Rattle.fab_base.specs.declared.operations.Written.{Written}
 use Rattle.fab_base.specs.declared.script.Conf.{Conf}
-use Rattle.fab_model.specs.Matching.{is_message}
+use Rattle.fab_base.proofs.Lists.{all_the_same}
+use Rattle.fab_base.specs.Kinds.{is_message}
 use Rattle.fab_model.specs.State.{State, Receiving, coming_from, under_way}
 use Rattle.fab_model.specs.Complete.{entry_of, is_made_by}
 use Rattle.fab_model.specs.Receiving.{Posting, receive_of, taking}
@@ -33,7 +34,6 @@ use Rattle.fab_laws.specs.ClaimLaws.{FreedRightly, LostIsPutAway, StaysClaimed, 
 use Rattle.fab_laws.specs.ReceiveLaws.{Aside, GoesOnce, GotIsTold, IsComing, IsToldOf, NoneIsLost, OneTells, Received, TookIsTold, Waits, WasDiscarded, WasDropped, WasTaken}
 use Rattle.fab_laws.proofs.Counts.{counted, in_many, many, same_one}
 use Rattle.fab_laws.proofs.Lists.{ahead_in, always, each_in, never}
-use Rattle.fab_laws.proofs.Levels.{all_the_same}
 use Rattle.fab_laws.proofs.Memory.{remembered_keeps}
 use Rattle.fab_laws.proofs.Programs.{Own, program_patient}
 use Rattle.fab_laws.proofs.Stepping.{at_opening, step_is}
@@ -56,7 +56,7 @@ use Rattle.fab_laws.proofs.receiving.Placing.{Grows, Placing, Rows, closes_when_
 use Rattle.fab_laws.proofs.receiving.Releasing.{Opens, fresh_opens, next_opens, opens_seen}
 use Rattle.fab_laws.proofs.receiving.Telling.{AllTold, next_late, placed_once, starting_late, tells_each}
 use Rattle.fab_laws.proofs.receiving.News.{news}
-use Rattle.fab_laws.proofs.receiving.Settling.{Flows, HasItem, Settled, Settling, mark_at, settles}
+use Rattle.fab_laws.proofs.receiving.Settling.{Flows, HasItem, Settled, Settling, mark_at, settles, came_either as came_parts}
 
 -- ---- the messages that arrive in a step are items
 
@@ -85,15 +85,6 @@ no_came_makes (Some p) s t x i = go (nat_lt s.calls t.calls) i
     go : (b : Bool) → In x (came (elim b [ true ↦ Made (wish_of (receive_of s p)) ∷ [] | false ↦ [] ])) → Never
     go true i = i
     go false i = i
-
-came_parts : (x : Mark) (es fs : List Event) → In x (came (es ++ fs)) → In x (came es) ⊎ In x (came fs)
-came_parts x [] fs i = inr i
-came_parts x (Came m ∷ es) fs (inl e) = inl (inl e)
-came_parts x (Came m ∷ es) fs (inr i) = elim (came_parts x es fs i) [ inl j ↦ inl (inr j) | inr j ↦ inr j ]
-came_parts x (Made w ∷ es) fs i = came_parts x es fs i
-came_parts x (Got call m last ∷ es) fs i = came_parts x es fs i
-came_parts x (Lost m ∷ es) fs i = came_parts x es fs i
-came_parts x (Cancelled call ∷ es) fs i = came_parts x es fs i
 
 no_came : (p : Option Posting) (s t : State) (x : Mark) → In x (came (happens s t p)) → Never
 no_came p s t x i = elim (came_parts x (left s t ++ cancels s t) (makes p s t) i) [
@@ -129,7 +120,7 @@ came_now v a b (Head source) x i = go (slice_get (v.ready source) (slice_index a
 
 -- ---- who got a message
 
-gone_how : (x : Mark) (past : List Event) → In x (gone past) → ((call : ℕ) × (last : Bool) × In (Got call x last) past) ⊎ In x (lost past)
+pub gone_how : (x : Mark) (past : List Event) → In x (gone past) → ((call : ℕ) × (last : Bool) × In (Got call x last) past) ⊎ In x (lost past)
 gone_how x [] i = never i
 gone_how x (Came m ∷ past) i = elim (gone_how x past i) [ inl g ↦ inl (g.0, g.1, inr g.2) | inr l ↦ inr l ]
 gone_how x (Made w ∷ past) i = elim (gone_how x past i) [ inl g ↦ inl (g.0, g.1, inr g.2) | inr l ↦ inr l ]
@@ -199,7 +190,7 @@ right_calls (Cancelled d ∷ past) right c y last (inl e) = absurd (cc (e))
 right_calls (Cancelled d ∷ past) right c y last (inr i) = right_calls past right c y last i
 
 -- a receive that a step asks for has the next number
-asked_number : (a b : Peer) (x : Deed) (f : Receive) → In f (asked_by a x b) → f.call ≡ a.state.calls
+pub asked_number : (a b : Peer) (x : Deed) (f : Receive) → In f (asked_by a x b) → f.call ≡ a.state.calls
 asked_number a b (Counts counters) f i = never i
 asked_number a b (Head source) f i = never i
 asked_number a b (Tail source) f i = never i

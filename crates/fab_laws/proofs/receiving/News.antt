@@ -1,15 +1,18 @@
 -- What a step adds to the two histories, by what it does on the receiving side.
-use Rattle.std.proofs.Common.{◌≡◌, ◌<◌, ◌≤◌, ℕ, zero, suc, Bool, true, false, not, ◌&&◌, List, [], ◌∷◌, ◌++◌, length, map, get_or, get_or-set_same, slice_get, Option, Some, None, inl, inr, refl, sym, ◌∙◌, ap, ap₂, subst, arith, append-nil, length-append}
+use Rattle.std.proofs.Common.{◌≡◌, ◌<◌, ◌≤◌, ℕ, Bool, true, false, not, ◌&&◌, List, [], ◌∷◌, ◌++◌, length, map, get_or, get_or-set_same, slice_get, Option, Some, None, inl, inr, refl, sym, ◌∙◌, ap, ap₂, subst, arith, append-nil, length-append}
 use Rattle.std.specs.Prelude.{find, nat_lt, slice_index, ◌==◌}
 use Rattle.std.proofs.lemmas.Bool.{and_parts, eq-eqb, eqb-true, le-ltb, lt-ltb}
-use Rattle.std.proofs.lemmas.List.{length-map}
+use Rattle.std.proofs.lemmas.List.{length-map, length_push as length_more}
+use Rattle.std.proofs.lemmas.Option.{slice_get_past as beyond}
 use Rattle.fab_base.specs.declared.items.Item.{Item}
 use Rattle.fab_base.specs.declared.operations.Arrival.{Arrival}
 use Rattle.fab_base.specs.declared.operations.Coming.{Coming}
 use Rattle.fab_base.specs.declared.operations.Coming.TheVariants.{Into, Keep, Throw}
 use Rattle.fab_base.specs.declared.operations.Receive.{Receive}
 use Rattle.fab_base.specs.declared.operations.Written.{Written}
-use Rattle.fab_model.specs.Matching.{is_message, remove_first, takes}
+use Rattle.fab_base.proofs.Lists.{get_last as last_get}
+use Rattle.fab_model.specs.Matching.{remove_first, takes}
+use Rattle.fab_base.specs.Kinds.{is_message}
 use Rattle.fab_model.specs.State.{Receiving, State, coming_from}
 use Rattle.fab_model.specs.Receiving.{Posting, claim_of, goes, receive_of, taking, want_of, without_claim, without_first}
 use Rattle.fab_model.specs.Complete.{filling}
@@ -21,21 +24,15 @@ use Rattle.fab_laws.specs.Members.{Ahead, In, Never}
 use Rattle.fab_laws.specs.Programs.{Counts, Deed, Draw, Head, Makes, Peer, Tail}
 use Rattle.fab_laws.specs.Matched.{Came, Cancelled, Event, Got, Lost, Made, Mark, arrives, came, cancel_of, cancels, claims_more, fate, filled_by, goes_into, gone, happens, is_posted, left, makes, mark_of, new_entry, noticed, parted, posting_of, same_item, taken_now, wish_of}
 use Rattle.fab_laws.specs.Claimed.{Claimed, Discarded, Dropped, Handling, Took, aside_of, call_in, claims, discards, discarding, freeing, frees, handles, parted_claim}
-use Rattle.fab_laws.proofs.Lists.{Each, Loses, ahead_in, ahead_map, ahead_middle, always, each_append, found_in, in_map, last_get, length_more, map_append, map_same, never, split_at}
+use Rattle.fab_laws.proofs.Lists.{Each, Loses, ahead_in, ahead_map, ahead_middle, always, each_append, found_in, in_map, map_append, map_same, never, split_at}
 use Rattle.fab_laws.proofs.matching.Moves.{Keeps, loses_mapped, parts, source_within, split_in}
-use Rattle.fab_laws.proofs.matching.Watch.{entry_tells, left_got, left_lost, parted_same}
+use Rattle.fab_laws.proofs.matching.Watch.{entry_tells, left_got, left_lost, parted_same, parted_step as stands_step}
 use Rattle.fab_laws.proofs.receiving.Acts.{Act, Arrives, Cancels, Claims, Closes, Discards, Draws, Drops, Fills, Gets, Joins, Passes, Plain, Posts, Rests, Seats, Takes, Waits, entries_for, entry_for, freed, given, is_head, leaving, let_out, subject, thrown}
 use Rattle.fab_laws.proofs.receiving.Claiming.{Claiming, Dull, Freed, Gone, News, Put, Still, Thrown, claimed_gone}
 use Rattle.fab_laws.proofs.receiving.Claiming.{Takes as TakesIt}
+use Rattle.fab_laws.proofs.matching.Quiet.{completed_same as completed_mark}
 
 -- ---- lists of arrivals and claims
-
--- who stands as before, in front of others, has not left
-stands_step : (a b : Arrival) (before after : List Arrival) → mark_of b ≡ mark_of a → parted before after ≡ None → parted (a ∷ before) (b ∷ after) ≡ None
-stands_step a b before after e ih =
-    let f = eq-eqb a.source b.source (sym (ap (λ (m : Mark). m.source) e)) in
-    let g = eq-eqb a.place b.place (sym (ap (λ (m : Mark). m.place) e)) in
-    ap₂ (λ c d. elim (c && d) [ true ↦ parted before after | false ↦ Some a ]) f g ∙ ih
 
 pub stands : (before after : List Arrival) (more : List Mark) → map mark_of after ≡ map mark_of before ++ more → parted before after ≡ None
 stands [] after more e = refl
@@ -67,20 +64,6 @@ claim_leaves : (c : ℕ × Arrival) (front back : List (ℕ × Arrival)) → ((d
 claim_leaves c [] [] apart = refl
 claim_leaves c [] (d ∷ back) apart = ap (λ b. elim b [ true ↦ parted_claim (d ∷ back) back | false ↦ Some c ]) (claim_differs c d ((c.0 == d.0) && same_item c.1 d.1) refl (apart d (inl refl)))
 claim_leaves c (e ∷ front) back apart = claim_self e (front ++ c ∷ back) (front ++ back) ∙ claim_leaves c front back apart
-
-beyond : {X : Type 0} (xs : List X) (k : ℕ) → length xs ≤ k → slice_get xs k ≡ None
-beyond [] k le = refl
-beyond (x ∷ xs) zero le = absurd (omega arith)
-beyond (x ∷ xs) (suc k) le = beyond xs k (omega arith)
-
--- the bytes that join a message leave its mark
-completed_mark : (source : ℕ) (bytes : List ℕ) (a : Arrival) → mark_of (completed source bytes a) ≡ mark_of a
-completed_mark source bytes a = go (a.source == source) a.bytes
-  where
-    go : (b : Bool) (o : Option (List ℕ)) → mark_of (let c : Arrival = elim b [ true ↦ elim o [ None ↦ record a { bytes = Some bytes } | Some _ ↦ a ] | false ↦ a ] in c) ≡ mark_of a
-    go true None = refl
-    go true (Some x) = refl
-    go false o = refl
 
 -- ---- what is left as it was
 

@@ -21,6 +21,7 @@ use Rattle.fab_laws.specs.MultiLaws.{HasPart, StandsAt, placed, used_in}
 use Rattle.fab_laws.proofs.Lists.{any_in, in_map, never}
 use Rattle.fab_laws.proofs.receiving.Pasting.{paste_keeps, paste_long, paste_stands, stands_still}
 use Rattle.fab_laws.proofs.receiving.Placing.{Grows, Level, Up}
+use Rattle.fab_laws.proofs.fences.Ordered.{in_order as ordered}
 
 -- ---- words
 
@@ -108,14 +109,6 @@ changed_how c g (x ∷ xs) apart z i = go (x.call == c) refl i (λ j. changed_ho
     ]
 
 -- ---- places
-
--- of two members one is the other, or stands in front of it
-pub ordered : {X : Type 0} (xs : List X) (a b : X) → In a xs → In b xs → (a ≡ b) ⊎ (Ahead a b xs ⊎ Ahead b a xs)
-ordered [] a b i j = never i
-ordered (z ∷ zs) a b (inl e) (inl f) = inl (e ∙ sym f)
-ordered (z ∷ zs) a b (inl e) (inr j) = inr (inl (inl (e, j)))
-ordered (z ∷ zs) a b (inr i) (inl f) = inr (inr (inl (f, i)))
-ordered (z ∷ zs) a b (inr i) (inr j) = elim (ordered zs a b i j) [ inl e ↦ inl e | inr way ↦ elim way [ inl h ↦ inr (inl (inr h)) | inr h ↦ inr (inr (inr h)) ] ]
 
 -- a message ends within what is given away
 pub within_used : (n call : ℕ) (past : List Event) (x : Mark) (p : ℕ) → In (x, p) (placed n call past) → p + min x.head.total (n - p) ≤ used_in n call past

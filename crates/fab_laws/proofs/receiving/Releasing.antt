@@ -10,6 +10,7 @@ use Rattle.fab_base.specs.declared.operations.Coming.TheVariants.{Into, Throw}
 use Rattle.fab_base.specs.declared.operations.Receive.{Receive}
 use Rattle.fab_base.specs.declared.operations.Written.{Written}
 use Rattle.fab_base.specs.declared.script.Conf.{Conf}
+use Rattle.fab_base.proofs.Options.{some_there as some_least}
 use Rattle.fab_model.specs.Matching.{change_first, remove_first, takes}
 use Rattle.fab_model.specs.State.{Receiving, State, coming_from, raise, under_way}
 use Rattle.fab_model.specs.Complete.{filled, filling, is_made_by}
@@ -18,6 +19,7 @@ use Rattle.fab_model.specs.Arrivals.{is_wanted, keeping, seated, seating, shut, 
 use Rattle.fab_model.specs.Calls.{Post}
 use Rattle.fab_model.specs.Views.{More, View}
 use Rattle.fab_model.proofs.Parts.{get_or-set, more_item, some_same}
+use Rattle.fab_model.proofs.Grows.{raised as raise_keeps}
 use Rattle.fab_laws.specs.Members.{Ahead, In, Never}
 use Rattle.fab_laws.specs.Programs.{Deed, Makes, starting}
 use Rattle.fab_laws.specs.Matched.{Event, Got, Mark, is_posted, mark_of}
@@ -25,7 +27,7 @@ use Rattle.fab_laws.specs.MessageLaws.{IsOf}
 use Rattle.fab_laws.specs.Claimed.{Handling}
 use Rattle.fab_laws.specs.MultiLaws.{BufferHolds, IsComingAt, handed_back, placed, release_of, used_in}
 use Rattle.fab_laws.proofs.Counts.{in_split}
-use Rattle.fab_laws.proofs.Lists.{Each, always, changed_same, each_in, each_so, found_in, in_back, in_end, in_front, in_map, in_removed, mapped, map_append, never, raise_here, raise_keeps}
+use Rattle.fab_laws.proofs.Lists.{Each, always, changed_same, each_in, each_so, found_in, in_back, in_end, in_front, in_map, in_removed, mapped, map_append, never, raise_here}
 use Rattle.fab_laws.proofs.matching.Watch.{entry_hands}
 use Rattle.fab_laws.proofs.streams.Told.{IsInto, Truly}
 use Rattle.fab_laws.proofs.streams.Entries.{told_by}
@@ -392,10 +394,6 @@ entries_hand r place y = go y.bytes
 
 plain_hand : (ws : List Written) → Each Plain ws → Each HandsNone ws
 plain_hand ws each = each_so Plain HandsNone ws (λ w p. p.1) each
-
-some_least : (o : Option ℕ) → is_some o ≡ true → (least : ℕ) × (o ≡ Some least)
-some_least None e = absurd (cc (e))
-some_least (Some least) e = (least, refl)
 
 module _ (v : View Item) (past es : List Event) (h : List Handling) (m rs : List Receive) (s t : State) (one : (f g : Receive) → In f (rs ++ m) → In g (rs ++ m) → f.call ≡ g.call → f ≡ g) (new : (f : Receive) → In f rs → f.call ≡ s.calls)
     (old_calls : (f : Receive) → In f m → f.call < s.calls) (got_before : (c : ℕ) (x : Mark) (last : Bool) → In (Got c x last) past → c < s.calls) (stands : (r : Receive) → In r s.rx.posted → IsOf m r)

@@ -79,7 +79,7 @@ pub went_later : (es past : List Event) (hs h : List Handling) (r : Receive) (x 
 went_later es past hs h r x (inl (last, i)) = inl (last, in_back (Got r.call x last) es past i)
 went_later es past hs h r x (inr i) = inr (in_back (Took r.call r.ctx x) hs h i)
 
-came_either : (x : Mark) (es past : List Event) → In x (came (es ++ past)) → In x (came es) ⊎ In x (came past)
+pub came_either : (x : Mark) (es past : List Event) → In x (came (es ++ past)) → In x (came es) ⊎ In x (came past)
 came_either x [] past i = inr i
 came_either x (Came m ∷ es) past (inl e) = inl (inl e)
 came_either x (Came m ∷ es) past (inr i) = elim (came_either x es past i) [ inl j ↦ inl (inr j) | inr j ↦ inr j ]

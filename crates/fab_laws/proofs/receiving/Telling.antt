@@ -2,7 +2,7 @@
 --     AllTold past s f      whatever entries are counted, f has as many as it got messages that are whole and whose entries these are
 use Rattle.std.proofs.Common.{◌≡◌, ◌≢◌, ◌<◌, ◌+◌, ◌-◌, ℕ, Bool, true, false, not, ◌&&◌, List, [], ◌∷◌, ◌++◌, length, map, set, get_or, get_or-set_same, slice_get, Option, Some, None, inl, inr, refl, sym, ◌∙◌, ap, ap₂, subst, arith, append-nil, append_assoc}
 use Rattle.std.specs.Prelude.{find, nat_le, slice_index, ◌==◌}
-use Rattle.std.proofs.lemmas.Bool.{and_parts, cases_eq, eq-eqb, eqb-true, ne_eqb}
+use Rattle.std.proofs.lemmas.Bool.{and_parts, cases_eq, eq-eqb, eqb-true, ne_eqb, and_right as and_none}
 use Rattle.fab_base.specs.declared.entries.Entry.TheVariants.{Part, Received}
 use Rattle.fab_base.specs.declared.entries.ErrKind.TheVariants.{Truncated}
 use Rattle.fab_base.specs.declared.entries.Taken.{Taken}
@@ -62,10 +62,6 @@ AllTold past s f = (test : Written → Bool) → many (counts_of f.call test) s.
 abbrev Untold : ℕ → Written → Type 0
 Untold c w = tells_of c w ≡ false
 
-and_none : (a b : Bool) → b ≡ false → (a && b) ≡ false
-and_none true b e = e
-and_none false b e = refl
-
 none_told : (c : ℕ) (test : Written → Bool) (ws : List Written) → Each (Untold c) ws → many (counts_of c test) ws ≡ 0
 none_told c test [] each = refl
 none_told c test (w ∷ ws) each = omega (arith, one_none (tells_of c w) (test w) each.0, none_told c test ws each.1)
@@ -115,7 +111,7 @@ entry_same r f place source head bytes least e g ctx long =
     ∙ ap₂ (λ (c n : ℕ). entry_parts (Some least) c n [] place source head) ctx long
     ∙ ap (λ (o : Option ℕ). entry_parts o f.ctx (length f.buf) (paste f.buf place []) place source head) (sym g) ∙ sym (entry_is f place source head [])
 
-splits : {X : Type 0} (x : X) (xs : List X) → In x xs → (front : List X) × (back : List X) × (xs ≡ front ++ x ∷ back)
+pub splits : {X : Type 0} (x : X) (xs : List X) → In x xs → (front : List X) × (back : List X) × (xs ≡ front ++ x ∷ back)
 splits x [] i = never i
 splits x (y ∷ xs) (inl e) = ([], xs, ap (λ z. z ∷ xs) (sym e))
 splits x (y ∷ xs) (inr i) = let k = splits x xs i in (y ∷ k.0, k.1, ap (λ zs. y ∷ zs) k.2)

@@ -7,7 +7,7 @@ use Rattle.std.proofs.lemmas.List.{get_or_past}
 use Rattle.std.proofs.lemmas.Option.{slice_get-get_or}
 use Rattle.fab_base.specs.declared.items.Item.{Item}
 use Rattle.fab_model.specs.State.{accepted_for}
-use Rattle.fab_model.specs.Complete.{at_match}
+use Rattle.fab_base.specs.Kinds.{at_match}
 use Rattle.fab_model.specs.Views.{seen}
 use Rattle.fab_laws.specs.Completed.{held}
 use Rattle.fab_laws.specs.Programs.{Peer, program}

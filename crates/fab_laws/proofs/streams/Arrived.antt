@@ -6,6 +6,7 @@ use Rattle.std.proofs.lemmas.Bool.Decides.{nat_tests}
 use Rattle.std.proofs.lemmas.List.{length-take-le, take-append-drop, take-take, take_all}
 use Rattle.std.proofs.lemmas.Option.{slice_get_within}
 use Rattle.fab_base.specs.declared.items.Item.{Item}
+use Rattle.fab_base.proofs.Lists.{all_the_same, take_one}
 use Rattle.fab_model.specs.State.{State, accepted_for, raise}
 use Rattle.fab_model.specs.Orders.{Turn}
 use Rattle.fab_model.specs.Views.{More, View, seen}
@@ -15,13 +16,11 @@ use Rattle.fab_laws.specs.Programs.{Deed, Makes, Counts, Head, Tail, Draw, Openi
 use Rattle.fab_laws.specs.Moments.{LeadTo}
 use Rattle.fab_laws.specs.Completed.{operations_of}
 use Rattle.fab_laws.specs.StreamLaws.{AllIsTaken, ArrivedIsFirst, ArrivedIsPosted, WholeHasArrived, arrived_from, arriving, whole_from}
-use Rattle.fab_laws.proofs.Counts.{take_one}
 use Rattle.fab_laws.proofs.Lists.{raise_here}
 use Rattle.fab_laws.proofs.Memory.{remembered_keeps}
 use Rattle.fab_laws.proofs.Programs.{Own, program_patient}
 use Rattle.fab_laws.proofs.Rest.{rest_at}
 use Rattle.fab_laws.proofs.Stepping.{StepIs, at_opening, step_is}
-use Rattle.fab_laws.proofs.Levels.{all_the_same}
 use Rattle.fab_laws.proofs.matching.Quiet.{sent_quiet, tail_quiet}
 use Rattle.fab_laws.proofs.working.Costs.{call_adds, draw_falls, head_arrives}
 use Rattle.fab_laws.proofs.replies.Stray.{AllOwed, all_owed, peer_of, sender_ready, turn_owed}

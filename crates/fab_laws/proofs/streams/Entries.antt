@@ -17,10 +17,12 @@ use Rattle.fab_base.specs.declared.operations.Coming.TheVariants.{Into, Keep, Th
 use Rattle.fab_base.specs.declared.operations.Receive.{Receive}
 use Rattle.fab_base.specs.declared.operations.Written.{Written}
 use Rattle.fab_base.specs.declared.script.Conf.{Conf}
-use Rattle.fab_model.specs.Matching.{change_first, is_message, remove_first, takes}
+use Rattle.fab_model.specs.Matching.{change_first, remove_first, takes}
+use Rattle.fab_base.specs.Kinds.{at_delivery, is_message}
 use Rattle.fab_model.specs.State.{State, coming_from, raise, with_rx}
-use Rattle.fab_model.specs.Complete.{paste, tag_of, at_delivery, book, entry_of, fill, received, release, truncated}
+use Rattle.fab_model.specs.Complete.{paste, tag_of, book, entry_of, fill, received, release, truncated}
 use Rattle.fab_base.specs.Replies.{at_either}
+use Rattle.fab_base.proofs.Lists.{all_the_same}
 use Rattle.fab_model.specs.Receiving.{draws, give, without_first}
 use Rattle.fab_model.specs.Peers.{reading}
 use Rattle.fab_model.specs.Sending.{do_answer, do_sent}
@@ -36,13 +38,12 @@ use Rattle.fab_laws.specs.Moments.{LeadTo, Note, noted, remembered}
 use Rattle.fab_laws.specs.Completed.{held}
 use Rattle.fab_laws.specs.Matched.{Event, Lost, Mark, arrives, happens, mark_of, noticed, noting, past_of, posting_of}
 use Rattle.fab_laws.specs.MessageLaws.{EntryReads, IsOf, Went, EntriesTell, ReceivesTell, asked_by, asked_of, asking, keeping_asked}
-use Rattle.fab_laws.proofs.Lists.{Each, always, each_append, each_in, each_removed, each_so, found_in, in_back, in_front, never, raise_here, raise_keeps}
+use Rattle.fab_laws.proofs.Lists.{Each, always, each_append, each_in, each_removed, each_so, found_in, in_back, in_front, never, raise_here}
 use Rattle.fab_laws.proofs.Memory.{remembered_keeps}
 use Rattle.fab_laws.proofs.Programs.{Own, program_patient}
 use Rattle.fab_laws.proofs.Stepping.{LineIs, StepIs, at_opening, step_is}
 use Rattle.fab_laws.proofs.completion.Calls.{draw_adds, sent_adds, tail_adds}
 use Rattle.fab_laws.proofs.completion.Places.{head_adds}
-use Rattle.fab_laws.proofs.Levels.{all_the_same}
 use Rattle.fab_laws.proofs.replies.Owed.{Lane, OwedAt, is_keep, unwhole_of}
 use Rattle.fab_laws.proofs.Counts.{in_many, one}
 use Rattle.fab_laws.proofs.matching.Moves.{Keeps}
@@ -50,8 +51,10 @@ use Rattle.fab_laws.proofs.matching.Steps.{step_keeps}
 use Rattle.fab_laws.proofs.matching.Orders.{fresh_keeps}
 use Rattle.fab_laws.proofs.streams.Events.{Since, claim_event, draw_event, happens_since, head_event, head_since, post_event, take_event, went_more}
 use Rattle.fab_model.proofs.Views.{more_self}
+use Rattle.fab_model.proofs.Grows.{raised as raise_keeps}
 use Rattle.fab_laws.proofs.replies.Stray.{AllOwed, all_owed, peer_of, turn_owed}
 use Rattle.fab_laws.proofs.streams.Told.{Sees, Aside, Comes, IsInto, Outlook, Stands, Tells, Told, Truly, answer_still, book_still, call_told, filled_told, given_told, less_waiting, release_still, request_still, sent_still, still_same, still_told, told_calls, waits_truly}
+use Rattle.fab_laws.proofs.replies.Tails.{each_with}
 
 -- ---- a receive takes a message
 
@@ -184,10 +187,6 @@ each_mapped P Q f (x ∷ xs) so each = (so x each.0, each_mapped P Q f xs so eac
 each_claimed : (Q R : Arrival → Type 0) (f : Arrival → Arrival) (cs : List (ℕ × Arrival)) → ((a : Arrival) → Q a → R (f a)) → Each Q (map (λ (c : ℕ × Arrival). c.1) cs) → Each R (map (λ (c : ℕ × Arrival). c.1) (map (λ (c : ℕ × Arrival). (c.0, f c.1)) cs))
 each_claimed Q R f [] so each = always
 each_claimed Q R f (c ∷ cs) so each = (so c.1 each.0, each_claimed Q R f cs so each.1)
-
-each_with : {X : Type 0} (P Q : X → Type 0) (xs : List X) → ((x : X) → In x xs → P x → Q x) → Each P xs → Each Q xs
-each_with P Q [] so each = always
-each_with P Q (x ∷ xs) so each = (so x (inl refl) each.0, each_with P Q xs (λ y i. so y (inr i)) each.1)
 
 module _ (v : Outlook) (m : List Receive) (calls : ℕ) (s : State) (told : Told v m calls s) (source : ℕ) (item : Item) (at : slice_get (v.view.ready source) (slice_index s.rx.tails source) ≡ Some item) (within : source < length s.rx.tails) (room : source < length s.rx.coming)
     (keeps : (a : Arrival) → In a (held s.rx) → a.bytes ≡ None → a.source ≡ source → is_keep (coming_from s.rx source) ≡ true) where

@@ -24,12 +24,12 @@ use Rattle.fab_laws.specs.Programs.{Deed, Makes, Counts, Head, Tail, Draw, Openi
 use Rattle.fab_laws.specs.Moments.{LeadTo}
 use Rattle.fab_laws.specs.Completed.{Accepted, Receives, Sends, accepted_by, accepts, begun, keeping_books, operations_of}
 use Rattle.fab_base.specs.Replies.{is_reply}
+use Rattle.fab_base.proofs.Lists.{all_the_same}
 use Rattle.fab_laws.specs.StreamLaws.{TakenIsPosted, asks, posted_for, whole_from}
 use Rattle.fab_laws.proofs.Memory.{remembered_keeps}
 use Rattle.fab_laws.proofs.Stepping.{LineIs, StepIs, at_opening, step_is}
 use Rattle.fab_laws.proofs.fences.Kept.{call_kept, draw_kept, head_tx, sent_kept, tail_kept}
 use Rattle.fab_laws.proofs.fences.Out.{KeptAtStart, accepting_keeps, behind, held_within, out_keeps}
-use Rattle.fab_laws.proofs.Levels.{all_the_same}
 use Rattle.fab_laws.proofs.fences.Hold.{Known, transmit_is}
 use Rattle.fab_laws.proofs.replies.Stray.{AllOwed, all_owed, turn_owed}
 use Rattle.fab_laws.proofs.streams.Taken.{taken_is_first}

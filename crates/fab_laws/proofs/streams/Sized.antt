@@ -9,6 +9,7 @@ use Rattle.fab_base.specs.declared.operations.Held.{Held}
 use Rattle.fab_base.specs.declared.operations.Operation.{Operation}
 use Rattle.fab_base.specs.declared.script.Conf.{Conf}
 use Rattle.fab_base.specs.Replies.{is_reply}
+use Rattle.fab_base.proofs.Lists.{all_the_same}
 use Rattle.fab_model.specs.Matching.{remove_first}
 use Rattle.fab_model.specs.State.{State, Transmitting, accepted_for, held_for}
 use Rattle.fab_model.specs.Complete.{joining}
@@ -23,7 +24,6 @@ use Rattle.fab_model.proofs.Views as views
 use Rattle.fab_laws.specs.Members.{In}
 use Rattle.fab_laws.specs.Programs.{Deed, Makes, Counts, Head, Tail, Draw, Opening, Peer, program}
 use Rattle.fab_laws.specs.MessageLaws.{IsSized, ItemsAreSized}
-use Rattle.fab_laws.proofs.Levels.{all_the_same}
 use Rattle.fab_laws.proofs.Lists.{get_in, in_end, never}
 use Rattle.fab_laws.proofs.Memory.{KeptByTurns, leads_good}
 use Rattle.fab_laws.proofs.Stepping.{StepIs, at_opening, step_is}

@@ -5,6 +5,7 @@ use Rattle.std.proofs.lemmas.Bool.{eqb-true}
 use Rattle.std.proofs.lemmas.Bool.Decides.{nat_tests}
 use Rattle.std.proofs.lemmas.List.{take-append-drop, take-append-le}
 use Rattle.fab_base.specs.declared.items.Item.{Item}
+use Rattle.fab_base.proofs.Lists.{all_the_same, take_one}
 use Rattle.fab_model.specs.State.{State, accepted_for, raise}
 use Rattle.fab_model.specs.Arrivals.{made_whole}
 use Rattle.fab_model.specs.Orders.{Turn}
@@ -15,11 +16,9 @@ use Rattle.fab_model.proofs.Views as views
 use Rattle.fab_laws.specs.Programs.{Deed, Makes, Counts, Head, Tail, Draw, Opening, Peer, program}
 use Rattle.fab_laws.specs.Moments.{LeadTo}
 use Rattle.fab_laws.specs.StreamLaws.{TakenIsFirst, taking, whole_from}
-use Rattle.fab_laws.proofs.Counts.{take_one}
 use Rattle.fab_laws.proofs.Memory.{remembered_keeps}
 use Rattle.fab_laws.proofs.Programs.{Own, program_patient}
 use Rattle.fab_laws.proofs.Stepping.{StepIs, at_opening, step_is}
-use Rattle.fab_laws.proofs.Levels.{all_the_same}
 use Rattle.fab_laws.proofs.replies.Stray.{AllOwed, all_owed, peer_of, turn_owed}
 
 abbrev tail_of : Peer → ℕ → ℕ

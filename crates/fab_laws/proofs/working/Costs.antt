@@ -28,20 +28,22 @@ use Rattle.fab_base.specs.declared.operations.Held.{Held}
 use Rattle.fab_base.specs.declared.operations.Operation.{Operation}
 use Rattle.fab_base.specs.declared.operations.Coming.{Coming}
 use Rattle.fab_base.specs.declared.operations.Coming.TheVariants.{Into, Keep, Throw, Request, Answer}
-use Rattle.fab_model.specs.Matching.{change_first, is_message, remove_first, takes}
+use Rattle.fab_model.specs.Matching.{change_first, remove_first, takes}
+use Rattle.fab_base.specs.Kinds.{at_delivery, at_match, is_message, refusal_of}
 use Rattle.fab_model.specs.State.{State, Receiving, Transmitting, called, coming_from, count, held_for, lookup, under_way, with_rx, with_tx, write}
-use Rattle.fab_model.specs.Complete.{at_delivery, at_match, book, entry_of, error, fill, fill_multi, filled, is_made_by, let_go, release, release_multi, reply, reply_head}
+use Rattle.fab_model.specs.Complete.{book, entry_of, error, fill, fill_multi, filled, is_made_by, let_go, release, release_multi, reply, reply_head}
 use Rattle.fab_base.specs.Replies.{at_either}
-use Rattle.fab_model.specs.Sending.{Order, accepting, answering, class_of, do_answer, do_sent, end_with, ending, going_on, held_back, is_answered_by, is_busy, items_of, let_out, letting_out, operation_of, refusal_of, success_of, transmit, transmit_to, transmitting}
+use Rattle.fab_model.specs.Sending.{Order, accepting, answering, class_of, do_answer, do_sent, end_with, ending, going_on, held_back, is_answered_by, is_busy, items_of, let_out, letting_out, operation_of, success_of, transmit, transmit_to, transmitting}
 use Rattle.fab_model.specs.Receiving.{Posting, cancel, cancellable, claim_of, draw_due, draws, drop_arrival, drop_claimed, give, goes, joining_posted, look, look_at, may_leave, peeked, post, receive_of, take_claimed, taken_by, taking, want_of, without_claim, without_first, without_posted}
 use Rattle.fab_model.specs.Target.{perform}
 use Rattle.fab_model.specs.Arrivals.{completed, do_draw, do_head, do_request, do_tail, heading_message, heading_other, is_wanted, keeping, made_whole, remote_class, remote_data, remote_event, seated, seating, stays, tail_to, taker, used_up, way_of, with_regions}
 use Rattle.fab_model.specs.Calls.{Call, Transmit, Post, Look, TakeClaimed, DropClaimed, Cancel, CancelFirst, Insert, Remove, Reg, Close, Put, Show, Count, answer, close, do_call, insert, put, reg, remove}
 use Rattle.fab_model.proofs.Fences.{out_and_back}
+use Rattle.fab_model.proofs.Removing.{length-remove_first-le as removed_shorter}
 use Rattle.fab_laws.specs.Work.{coming_work, halves, heft, item_work, kind_work, on_way, own_work, waiting}
 use Rattle.fab_laws.proofs.Counts.{any_many, not_found}
 use Rattle.fab_laws.proofs.Lists.{found_in}
-use Rattle.fab_laws.proofs.working.Sums.{changed_length, halves_head, halves_tail, heft_put, on_way_join, removed_length, removed_shorter, waiting_join, waiting_sent}
+use Rattle.fab_laws.proofs.working.Sums.{changed_length, halves_head, halves_tail, heft_put, on_way_join, removed_length, waiting_join, waiting_sent}
 
 -- the work of a peer's state, and what its items on their way bring at n receivers at which so many have arrived
 abbrev pub cost : ℕ → (ℕ → ℕ) → State → ℕ

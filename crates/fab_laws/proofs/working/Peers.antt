@@ -1,8 +1,7 @@
 -- Each step of any peer lowers the work of all.
-use Rattle.std.proofs.Common.{◌≡◌, ◌≢◌, ◌≤◌, ◌<◌, ◌+◌, ◌*◌, ℕ, zero, suc, Bool, true, false, List, [], ◌∷◌, ◌++◌, length, length-append, length-set, map, set, get_or, slice_get, replicate, drop, Option, Some, None, ◌⊎◌, inl, inr, refl, sym, ◌∙◌, ap, subst, arith}
+use Rattle.std.proofs.Common.{◌≡◌, ◌≢◌, ◌≤◌, ◌<◌, ◌+◌, ◌*◌, ℕ, zero, suc, true, false, List, [], ◌∷◌, length, length-set, map, set, get_or, slice_get, replicate, drop, Option, Some, None, inl, inr, refl, sym, ◌∙◌, ap, subst, arith}
 use std.Path.{fun_ext}
 use Rattle.std.specs.Prelude.{◌&&◌, not, slice_index}
-use Rattle.std.specs.List.{list_all}
 use Rattle.std.specs.Option.{option_map, option_map_or}
 use Rattle.std.proofs.lemmas.Bool.{and_parts, cases_eq}
 use Rattle.std.proofs.lemmas.List.{length-map, length-replicate}
@@ -14,6 +13,8 @@ use Rattle.fab_base.specs.declared.peers.Step.TheVariants.{Do, Head, Tail, Draw,
 use Rattle.fab_base.specs.declared.script.Bound.{Bound}
 use Rattle.fab_base.specs.declared.script.Conf.{Conf}
 use Rattle.fab_base.specs.declared.script.Line.{Line}
+use Rattle.fab_base.proofs.Bools.{not_true}
+use Rattle.fab_base.proofs.Lists.{list_all_at}
 use Rattle.fab_model.specs.State.{Transmitting, accepted_for}
 use Rattle.fab_model.specs.Receiving.{draw_due}
 use Rattle.fab_model.specs.Calls.{upto}
@@ -28,6 +29,7 @@ use Rattle.fab_laws.proofs.working.Costs.{Arrives}
 use Rattle.fab_laws.proofs.working.Stepping.{Enough, Lowers, Works, step_works}
 use Rattle.fab_laws.proofs.working.Sums.{on_way_next, total_change, total_le}
 use Rattle.fab_model.proofs.Views as views
+use Rattle.fab_model.proofs.Elements.{length-upto, upto_at as in_upto}
 
 abbrev row : ℕ → (ℕ → ℕ) → Option Actor → ℕ
 row n at o = option_map_or (actor_work n at) o 0
@@ -178,15 +180,6 @@ by_step all p a b Final sized here w = (lowers_all all p a b here w, sized_step 
 
 -- ---- calm
 
-list_all_at : {X : Type 0} (test : X → Bool) (xs : List X) (k : ℕ) (x : X) → list_all test xs ≡ true → slice_get xs k ≡ Some x → test x ≡ true
-list_all_at test [] k x all e = absurd (cc)
-list_all_at test (y ∷ xs) zero x all e = let f : y ≡ x = cc in ap test (sym f) ∙ (and_parts _ _ all).0
-list_all_at test (y ∷ xs) (suc k) x all e = list_all_at test xs k x (and_parts _ _ all).1 e
-
-not_true : (b : Bool) → not b ≡ true → b ≡ false
-not_true true e = absurd (cc)
-not_true false e = refl
-
 calm_draws : (all : List Actor) (p : ℕ) (a : Actor) → is_calm (map facts all) ≡ true → slice_get all p ≡ Some a → draw_due a.state.rx ≡ false
 unfolding is_calm
 calm_draws all p a c e =
@@ -296,21 +289,6 @@ fresh_sized conf lines = record {
   heads = length-replicate {A = ℕ} conf.peers 0;
   tails = length-replicate {A = ℕ} conf.peers 0;
 }
-
-length-upto : (n : ℕ) → length (upto n) ≡ n
-length-upto zero = refl
-length-upto (suc n) = omega (arith, length-append (upto n) (n ∷ []), length-upto n)
-
--- the last of a longer list, and the others
-at_last : {X : Type 0} (xs : List X) (y x : X) (k : ℕ) → slice_get (xs ++ y ∷ []) k ≡ Some x → (slice_get xs k ≡ Some x) ⊎ ((k ≡ length xs) × (x ≡ y))
-at_last [] y x zero e = inr (refl, cc)
-at_last [] y x (suc k) e = absurd (cc (e))
-at_last (z ∷ xs) y x zero e = inl e
-at_last (z ∷ xs) y x (suc k) e = elim (at_last xs y x k e) [ inl f ↦ inl f | inr f ↦ inr (ap suc f.0, f.1) ]
-
-in_upto : (n p k : ℕ) → slice_get (upto n) p ≡ Some k → k ≡ p
-in_upto zero p k e = absurd (cc (e))
-in_upto (suc n) p k e = elim (at_last (upto n) n k p e) [ inl f ↦ in_upto n p k f | inr f ↦ f.1 ∙ sym (f.0 ∙ length-upto n) ]
 
 opening_long : (b : Bound) → length (opening b) ≡ b.script.conf.peers
 unfolding opening

@@ -22,6 +22,7 @@ use Rattle.fab_model.specs.Calls.{Call, CancelFirst, answer, call_of, do_call}
 use Rattle.fab_model.specs.Peers.{Actor, after_call, call_line, do_line, do_next, draw_step, fabric, final_step, head_step, is_again, is_of_ctx, next_line, read_next, reading, sent_step, step, tail_step, unread, wait_line, with_result, with_state}
 use Rattle.fab_model.specs.Views.{View}
 use Rattle.fab_model.proofs.Parts.{if_is, some_is, some_same}
+use Rattle.fab_model.proofs.Patient.{accepted_within as within}
 use Rattle.fab_laws.specs.Scripts.{deed_of, next_call, peer_of}
 use Rattle.fab_laws.specs.Work.{Sized, actor_work, item_work, lines_work}
 use Rattle.fab_laws.proofs.Scripts.{Alike, of_step}
@@ -171,11 +172,6 @@ Works v a (Step.Sent t) b = Lowers a b
 Works v a Draw b = Lowers a b
 Works v a Step.Read b = Lowers a b
 Works v a Final b = Lowers a b
-
-within : (accepted : List (List Item)) (t k : ℕ) → k < length (get_or accepted t []) → t < length accepted
-within [] t k lt = absurd (omega arith)
-within (x ∷ accepted) zero k lt = omega arith
-within (x ∷ accepted) (suc t) k lt = let ih = within accepted t k lt in omega arith
 
 number_within : (xs : List ℕ) (t k : ℕ) → get_or xs t 0 ≡ k + 1 → t < length xs
 number_within [] t k e = absurd (omega (arith, e))

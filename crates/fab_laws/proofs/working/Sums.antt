@@ -25,14 +25,6 @@ removed_length test (x ∷ xs) y f = go (test x) refl (removed_length test xs y)
     go true t ih = rw (t, remove_first) (omega arith)
     go false t ih = let more = ih (rw (t, find) at f) in rw (t, remove_first) (omega (arith, more))
 
-pub removed_shorter : {X : Type 0} (test : X → Bool) (xs : List X) → length (remove_first test xs) ≤ length xs
-removed_shorter test [] = omega arith
-removed_shorter {X} test (x ∷ xs) = go (test x) (removed_shorter test xs)
-  where
-    go : (b : Bool) → length (remove_first test xs) ≤ length xs → length {A = X} (elim b [ true ↦ xs | false ↦ x ∷ remove_first test xs ]) ≤ length (x ∷ xs)
-    go true le = omega arith
-    go false le = omega (arith, le)
-
 pub changed_length : {X : Type 0} (test : X → Bool) (f : X → X) (xs : List X) → length (change_first test f xs) ≡ length xs
 changed_length test f [] = refl
 changed_length {X} test f (x ∷ xs) = go (test x) (changed_length test f xs)

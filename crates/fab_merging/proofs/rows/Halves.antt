@@ -14,10 +14,10 @@ use Rattle.fab_base.specs.declared.peers.Step.TheVariants.{Do, Head, Tail, Sent}
 use Rattle.fab_base.specs.declared.script.Bound.{Bound}
 use Rattle.fab_base.specs.declared.script.BytesWord.TheVariants.{Zero}
 use Rattle.fab_base.specs.declared.script.LineOp.{LineOp}
-use Rattle.fab_wire.specs.declared.moves.Move.TheVariants.{Post, Take}
-use Rattle.fab_wire.specs.Cut.{IsItem}
-use Rattle.fab_wire.specs.Frames.{IsSound}
-use Rattle.fab_wire.specs.Joined.{grown}
+use Rattle.fab_link.specs.declared.moves.Move.TheVariants.{Post, Take}
+use Rattle.fab_link.specs.Cut.{IsItem}
+use Rattle.fab_link.specs.Frames.{IsSound}
+use Rattle.fab_link.specs.Joined.{grown}
 use Rattle.fab_model.specs.Machine.{machine}
 use Rattle.fab_model.specs.Orders.{Reached}
 use Rattle.fab_model.specs.Arrivals.{do_head, do_tail}

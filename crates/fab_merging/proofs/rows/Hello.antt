@@ -13,9 +13,9 @@ use Rattle.fab_base.specs.declared.peers.Step.TheVariants.{Do, Head, Tail, Sent,
 use Rattle.fab_base.specs.declared.script.Bound.{Bound}
 use Rattle.fab_base.specs.declared.script.BytesWord.TheVariants.{Text}
 use Rattle.fab_base.specs.declared.script.LineOp.{LineOp}
-use Rattle.fab_wire.specs.declared.moves.Move.TheVariants.{Post, Take}
-use Rattle.fab_wire.specs.Frames.{frame, IsSound}
-use Rattle.fab_wire.specs.Cut.{IsItem}
+use Rattle.fab_link.specs.declared.moves.Move.TheVariants.{Post, Take}
+use Rattle.fab_link.specs.Frames.{frame, IsSound}
+use Rattle.fab_link.specs.Cut.{IsItem}
 use Rattle.fab_model.specs.Machine.{machine}
 use Rattle.fab_model.specs.Orders.{Reached}
 use Rattle.fab_model.specs.Arrivals.{do_head, do_tail}
@@ -29,6 +29,7 @@ use Rattle.fab_face.specs.Acts.{Act, Did, Took, Posted, Had, taken_of, posted_to
 use Rattle.fab_peer.specs.Turns.{Living, LivesBy}
 use Rattle.fab_merging.specs.Pasts.{Past, begun, ActedBy, Acted}
 use Rattle.fab_merging.specs.Law.{AreTold, IsFresh, ins_at, outs_at}
+use Rattle.fab_merging.proofs.Lists.{no_items}
 use Rattle.fab_merging.proofs.Opening.{start_fresh}
 use Rattle.fab_merging.proofs.Reaching.{threads_reach}
 
@@ -128,9 +129,6 @@ acted1 : ActedBy (begun (resting a1)) x1 sends
 acted1 = record { lives = sender; steps = refl; moves = (Post 0 1 ∷ [], refl, refl); outs = λ d. refl; ins = λ s. refl }
 
 -- ---- both
-
-pub no_items : (items : List Item) (i : ℕ) (item : Item) → items ≡ [] → slice_get items i ≡ Some item → ⊥
-no_items items i item none e = let is : slice_get {X = Item} [] i ≡ Some item = subst (λ xs. slice_get xs i ≡ Some item) none e in cc (is)
 
 items0 : AreItems (x0.living).held
 unfolding machine

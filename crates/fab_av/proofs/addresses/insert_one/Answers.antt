@@ -1,8 +1,9 @@
 use Rattle.std.proofs.Common.{◌≡◌, ◌++◌, ◌∷◌, [], None, Some, is_some, false, ap, ◌∙◌, sym, arith, length, position, slice_index_or, slice_set, get_or-set_same}
 use Rattle.fab_base.specs.declared.peers.LineResult.TheVariants.{Index}
+use Rattle.fab_base.proofs.Options.{not_some as none_from}
 use Rattle.fab_model.specs.State.{State}
 use Rattle.fab_model.specs.Calls.{peer_named, is_peer}
-use Rattle.fab_av.proofs.Machines.{none_from, insert-no_peer, insert-there, insert-full, insert-push, same_addresses}
+use Rattle.fab_av.proofs.Machines.{insert-no_peer, insert-there, insert-full, insert-push, same_addresses}
 use Rattle.fab_av.proofs.Tables.{position-in, index_named-table, IsTable-push}
 use Rattle.fab_av.proofs.addresses.insert_one.Goals as goal
 

@@ -1,6 +1,6 @@
 use Rattle.std.proofs.Common.{List, ap, ap₂, append_assoc, get_or, sym, take, ℕ, ◌++◌, ◌∙◌}
 use Rattle.std.specs.List.{concat}
-use Rattle.fab_collectives.proofs.Joining.{one_joined}
+use Rattle.fab_fold.proofs.Folding.{one_joined}
 use Rattle.fab_collectives.proofs.shares.joined_with.Goals as goal
 
 pub loop-message-preserved : goal.loop-message-preserved

@@ -1,11 +1,12 @@
 use Rattle.std.proofs.Common.{◌≡◌, ◌<◌, ◌∙◌, ℕ, length, slice_index_or, slice_set, sym, ap, subst, arith, refl}
+use Rattle.fab_base.proofs.Options.{on_err}
 use Rattle.fab_model.specs.Peers.{is_calm}
 use Rattle.fab_finish.specs.Joined.{actors}
 use Rattle.fab_finish.specs.Rests.{AreCancelled}
 use Rattle.fab_finish.specs.Wanting.{Leaves}
 use Rattle.fab_finish.proofs.Joining.{got}
 use Rattle.fab_finish.proofs.Ending.{rest_calm, end_facts, end_goes_on, cancelled_none, cancelled_more, rest_after, done_after}
-use Rattle.fab_finish.proofs.Wanting.{ended_grows, grows_same, grows_then, leaves_after, leaves_same, on_err, stays_all}
+use Rattle.fab_finish.proofs.Wanting.{ended_grows, grows_same, grows_then, leaves_after, leaves_same, stays_all}
 use Rattle.fab_finish.proofs.finish.cancel_all.Goals as goal
 
 pub cancel_posted-requires : goal.cancel_posted-requires

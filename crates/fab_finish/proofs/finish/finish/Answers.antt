@@ -1,8 +1,9 @@
+use Rattle.fab_base.proofs.Options.{on_err}
 use Rattle.fab_finish.specs.Joined.{opened, actors, schedules}
 use Rattle.fab_finish.proofs.Resting.{rests, rest_is}
 use Rattle.fab_finish.proofs.Clearing.{cleared, cancel_none, all_quiet}
 use Rattle.fab_finish.specs.Wanting.{Leaves}
-use Rattle.fab_finish.proofs.Wanting.{goes_ends, grows_then, leaves_after, on_err}
+use Rattle.fab_finish.proofs.Wanting.{goes_ends, grows_then, leaves_after}
 use Rattle.fab_finish.proofs.finish.finish.Goals as goal
 
 pub returns-then-not-all_done-clause-rest : goal.returns-then-not-all_done-clause-rest

@@ -1,7 +1,8 @@
 use Rattle.std.proofs.Common.{arith}
+use Rattle.fab_base.proofs.Options.{on_err}
 use Rattle.fab_finish.specs.Wanting.{Leaves}
 use Rattle.fab_finish.proofs.Freight.{not_raised}
-use Rattle.fab_finish.proofs.Wanting.{goes_ends, grows_then, leaves_after, on_err}
+use Rattle.fab_finish.proofs.Wanting.{goes_ends, grows_then, leaves_after}
 use Rattle.fab_finish.proofs.rounds.go_on.Goals as goal
 
 pub returns-in_err-went-clause-grows : goal.returns-in_err-went-clause-grows

@@ -1,8 +1,9 @@
 use Rattle.std.proofs.Common.{◌∙◌, Ok, ap, arith, refl}
+use Rattle.fab_base.proofs.Options.{on_err}
 use Rattle.fab_finish.specs.Wanting.{Leaves}
 use Rattle.fab_finish.proofs.Freight.{lowers_after, lowers_both, lowers_none}
 use Rattle.fab_finish.proofs.Resting.{still_next, goes_carried, still_carried}
-use Rattle.fab_finish.proofs.Wanting.{goes_ends, grows_same, grows_then, leaves_after, leaves_same, on_err}
+use Rattle.fab_finish.proofs.Wanting.{goes_ends, grows_same, grows_then, leaves_after, leaves_same}
 use Rattle.fab_finish.proofs.rounds.round.Goals as goal
 
 pub loop-number-init : goal.loop-number-init

@@ -1,5 +1,6 @@
+use Rattle.fab_base.proofs.Options.{on_err}
 use Rattle.fab_finish.specs.Wanting.{Leaves}
-use Rattle.fab_finish.proofs.Wanting.{goes_ends, grows_then, leaves_after, on_err}
+use Rattle.fab_finish.proofs.Wanting.{goes_ends, grows_then, leaves_after}
 use Rattle.fab_finish.proofs.rounds.settle.Goals as goal
 
 pub returns-in_err-go_on-clause-grows : goal.returns-in_err-go_on-clause-grows

@@ -1,5 +1,6 @@
 use Rattle.std.proofs.Common.{arith}
-use Rattle.fab_host.proofs.Writing.{on_ok, one_digit, more_digits}
+use Rattle.std.proofs.lemmas.Result.{on_ok_weaker as on_ok}
+use Rattle.fab_host.proofs.Writing.{one_digit, more_digits}
 use Rattle.fab_host.proofs.ending.+write_number.Goals as goal
 
 pub returns-then-number-lt10-clause-ok : goal.returns-then-number-lt10-clause-ok

@@ -1,5 +1,6 @@
+use Rattle.std.proofs.lemmas.Result.{on_ok_weaker as on_ok}
 use Rattle.fab_host.specs.Ending.{why_name}
-use Rattle.fab_host.proofs.Writing.{on_ok, refused_line}
+use Rattle.fab_host.proofs.Writing.{refused_line}
 use Rattle.fab_host.proofs.ending.tell_refused.Goals as goal
 
 pub returns-clause-ok : goal.returns-clause-ok

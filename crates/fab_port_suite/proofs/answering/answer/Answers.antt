@@ -1,6 +1,6 @@
 use Rattle.std.proofs.Common.{◌≡◌, ℕ, true, sym, ap, ◌∙◌, subst}
 use Rattle.fab_base.specs.declared.frames.FrameHead.{FrameHead}
-use Rattle.fab_wire.specs.Owing.{ends_owing}
+use Rattle.fab_link.specs.Owing.{ends_owing}
 use Rattle.fab_link.specs.Meaning.{Outgoing, Incoming, Owes}
 use Rattle.fab_port_suite.proofs.Paying.{owes_one}
 use Rattle.fab_port_suite.proofs.answering.answer.Goals as goal

@@ -1,5 +1,5 @@
 use Rattle.std.proofs.Common.{refl, ap, subst}
-use Rattle.fab_wire.specs.Frames.{lent_frame}
+use Rattle.fab_link.specs.Frames.{lent_frame}
 use Rattle.fab_link.specs.Meaning.{Incoming, Fronted}
 use Rattle.fab_port_suite.proofs.answering.next_head.Goals as goal
 

@@ -1,5 +1,5 @@
 use Rattle.std.proofs.Common.{arith}
-use Rattle.fab_wire.specs.Frames.{frame}
+use Rattle.fab_link.specs.Frames.{frame}
 use Rattle.fab_port_suite.proofs.Between.{between_after}
 use Rattle.fab_port_suite.proofs.calls.post.Goals as goal
 

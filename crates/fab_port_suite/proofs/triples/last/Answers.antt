@@ -1,5 +1,5 @@
+use Rattle.fab_base.proofs.Lists.{rest_is, last_is}
 use Rattle.fab_port_suite.specs.Lanes.{IsReady}
-use Rattle.fab_port_suite.proofs.Lists.{rest_is, last_is}
 use Rattle.fab_port_suite.proofs.triples.last.Goals as goal
 
 pub returns-clause-rest : goal.returns-clause-rest

@@ -1,5 +1,5 @@
 use Rattle.std.proofs.Common.{rules, ◌≡◌, ◌∙◌, [], ◌∷◌, ap}
-use Rattle.fab_table.specs.declared.fabric.Fabric.{Fabric}
+use Rattle.fab_table.specs.declared.lane_table.LaneTable.{LaneTable}
 use Rattle.fab_ring.specs.Ports.{table_of}
 use Rattle.fab_port_tests.proofs.RingPorts.{ring_all, ring_count, ring_goes}
 use Rattle.fab_port_tests.proofs.ring_ports.pair_gathered.Goals as goal
@@ -19,4 +19,4 @@ pub returns-clause-lanes : goal.returns-clause-lanes
 returns-clause-lanes c =
     let is : c.push-2.new.self.items ≡ c.args.zero ∷ c.args.one ∷ [] = search rules in
     let goes = ring_goes c.args.zero c.args.one c.push-2.new.self.items c.in-Ok.plain.items c.in_ok-pair.pair.0 c.in_ok-pair.pair.1 is (c.in_ok-pair.ensures {u = tt}) c.in-Ok.ensures.gathered in
-    (goes.0.peers ∙ c.requires.zero.1, goes.1.peers ∙ ap (λ (t : Fabric). t.peers) c.requires.one.1 ∙ c.requires.zero.1)
+    (goes.0.peers ∙ c.requires.zero.1, goes.1.peers ∙ ap (λ (t : LaneTable). t.peers) c.requires.one.1 ∙ c.requires.zero.1)

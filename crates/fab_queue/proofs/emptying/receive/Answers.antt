@@ -2,7 +2,7 @@ use Rattle.std.proofs.Common.{rules, ◌≡◌, ℕ, ◌+◌, ◌<◌, ◌≤◌
 use Rattle.std.specs.Prelude.{Vec, vec_capacity}
 use Rattle.std.specs.declared.alloc.Global.{Global}
 use Rattle.fab_base.specs.declared.frames.Frame.{Frame}
-use Rattle.fab_wire.specs.Frames.{IsLane}
+use Rattle.fab_link.specs.Frames.{IsLane}
 use Rattle.fab_link.specs.Plain.{lane_at, with_lane}
 use Rattle.fab_queue.specs.Ends.{Out}
 use Rattle.fab_queue.specs.Gather.{Drained}

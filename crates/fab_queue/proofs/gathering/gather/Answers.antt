@@ -1,11 +1,11 @@
 use Rattle.std.proofs.Common.{rules, ◌≡◌, List, length, sym, ap, ◌∙◌, subst, arith}
 use Rattle.std.specs.Prelude.{Vec}
 use Rattle.std.specs.declared.alloc.Global.{Global}
+use Rattle.fab_base.proofs.Lists.{written_back}
 use Rattle.fab_link.specs.Plain.{Plain}
 use Rattle.fab_queue.specs.Ends.{Out, In}
 use Rattle.fab_queue.specs.Ports.{Queued}
 use Rattle.fab_queue.specs.Gather.{AreAll, AreSuccessors, AreAllRooms, AreApart, ReceivesAll, ReceivedAll, Gathered}
-use Rattle.fab_queue.proofs.Members.{written_back}
 use Rattle.fab_queue.proofs.Coming.{few_ports, receives, gathered, merged}
 use Rattle.fab_queue.proofs.gathering.gather.Goals as goal
 

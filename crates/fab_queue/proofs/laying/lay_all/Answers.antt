@@ -1,9 +1,9 @@
 use Rattle.std.proofs.Common.{◌≡◌, List, length, subst, arith}
 use Rattle.std.specs.Prelude.{Vec}
 use Rattle.std.specs.declared.alloc.Global.{Global}
+use Rattle.fab_base.proofs.Lists.{written_back}
 use Rattle.fab_queue.specs.Ends.{In}
 use Rattle.fab_queue.specs.Laid.{AreLaidFrom}
-use Rattle.fab_queue.proofs.Members.{written_back}
 use Rattle.fab_queue.proofs.Growing.{laid_peer}
 use Rattle.fab_queue.proofs.laying.lay_all.Goals as goal
 

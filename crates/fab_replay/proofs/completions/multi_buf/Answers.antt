@@ -1,7 +1,7 @@
 use Rattle.std.proofs.Common.{◌≡◌, Some, None, sym, ◌∙◌, rules}
 use Rattle.std.specs.Prelude.{find}
 use Rattle.fab_model.specs.Peers.{first_some, released_buf}
-use Rattle.fab_reference.specs.Seen.{state_of}
+use Rattle.fab_checker_machine.specs.Seen.{state_of}
 use Rattle.fab_replay.specs.Seen.{is_made}
 use Rattle.fab_replay.proofs.Multis.{buf_posted, buf_closing, buf_written}
 use Rattle.fab_replay.proofs.completions.multi_buf.Goals as goal

@@ -1,5 +1,5 @@
 use Rattle.std.proofs.Common.{sym, ◌∙◌, rules, refl, true, false}
-use Rattle.fab_reference.specs.Room.{has_room}
+use Rattle.fab_checker_machine.specs.Room.{has_room}
 use Rattle.fab_replay.specs.Seen.{actor_of}
 use Rattle.fab_replay.proofs.Steps.{final_is}
 use Rattle.fab_replay.proofs.ready.cancels.Goals as goal

@@ -1,5 +1,5 @@
 use Rattle.std.proofs.Common.{◌≡◌, ◌+◌, ◌≤◌, List, ◌++◌, length, vec_capacity, None}
-use Rattle.fab_wire.specs.Frames.{last_head, IsLane}
+use Rattle.fab_link.specs.Frames.{last_head, IsLane}
 use Rattle.fab_table.specs.declared.kinds.Sent.{Sent}
 use Rattle.fab_table.specs.Views.{frames_of}
 use Rattle.fab_table.specs.Seats.{IsSame, in_of, out_of}

@@ -5,7 +5,7 @@ use Rattle.std.specs.Prelude.{slice_get}
 use Rattle.std.proofs.lemmas.Option.{same_Some, slice_get_within}
 use Rattle.fab_base.specs.declared.frames.Frame.{Frame}
 use Rattle.fab_link.specs.Plain.{Lane, lane_at}
-use Rattle.fab_wire.specs.Frames.{IsLane}
+use Rattle.fab_link.specs.Frames.{IsLane}
 use Rattle.fab_ring.specs.declared.rooms.Inside.{Inside}
 use Rattle.fab_ring.specs.Gather.{Grew, Awaits, Leads, Emptied}
 use Rattle.fab_ring.proofs.Joined.{grew_outs}

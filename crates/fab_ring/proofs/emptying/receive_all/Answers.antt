@@ -3,12 +3,12 @@ use mathlib.Core.Logic.{dite}
 use native.Mathlib.Decide.{ℕ_discrete}
 use Rattle.std.specs.Prelude.{Some, slice_get, slice_set}
 use Rattle.std.proofs.lemmas.Option.{same_Some, slice_get_within, slice_get-get_or}
+use Rattle.fab_base.proofs.Lists.{get_set_same, get_set_other}
 use Rattle.fab_link.specs.Plain.{Plain}
 use Rattle.fab_table.specs.Seats.{part_of}
 use Rattle.fab_ring.specs.declared.rooms.Inside.{Inside}
 use Rattle.fab_ring.specs.Gather.{Brought}
 use Rattle.fab_ring.proofs.Coming.{prefix_less, awaits_each_later, brought_from, brought_later}
-use Rattle.fab_ring.proofs.Told.{get_set_same, get_set_other}
 use Rattle.fab_ring.proofs.emptying.receive_all.Goals as goal
 
 pub loop-own-init : goal.loop-own-init

@@ -1,7 +1,7 @@
 use Rattle.std.proofs.Common.{◌≡◌, ℕ, ◌+◌, ◌<◌, ◌≤◌, true, List, ◌∷◌, length, take, drop, sym, refl, ap, ◌∙◌, subst, arith}
 use Rattle.std.specs.Prelude.{None}
 use Rattle.atomic_table.specs.Table.{rest}
-use Rattle.fab_wire.specs.Frames.{last_head, MayCome}
+use Rattle.fab_link.specs.Frames.{last_head, MayCome}
 use Rattle.fab_table.specs.declared.kinds.Command.{Command}
 use Rattle.fab_table.specs.declared.kinds.Slot.{Slot}
 use Rattle.fab_table.specs.declared.kinds.Slot.TheVariants.{Cell}

@@ -1,8 +1,9 @@
-use Rattle.std.proofs.Common.{◌≡◌, ◌∙◌, ◌==◌, ℕ, ◌&&◌, Bool, true, false, not, List, None, Some, Option, refl, sym, ap, rules}
+use Rattle.std.proofs.Common.{◌≡◌, ◌∙◌, ◌==◌, ℕ, true, false, not, List, None, Some, Option, refl, sym, ap, rules}
 use Rattle.std.specs.Prelude.{position, IsSome}
 use Rattle.std.specs.List.{list_any}
 use Rattle.std.proofs.lemmas.List.Quantifiers.{position-Some}
 use Rattle.std.proofs.lemmas.List.Folds.{list_any_at}
+use Rattle.fab_base.proofs.Bools.{and_false}
 use Rattle.fab_model.proofs.Firsts.{remove_first_at, list_any-none}
 use Rattle.fab_match.specs.Matcher.{has_id}
 use Rattle.fab_rx.specs.declared.stored.Waiting.{Waiting}
@@ -12,10 +13,6 @@ use Rattle.fab_rx.specs.Table.{at}
 use Rattle.fab_rx.specs.Homes.{is_fed_by}
 use Rattle.fab_rx.specs.Sharing.{is_over, multi_in}
 use Rattle.fab_rx.proofs.multis.release.Goals as goal
-
-and_false : (b : Bool) → (b && false) ≡ false
-and_false true = refl
-and_false false = refl
 
 -- where none of this id is closing, none is over
 not_there : (c : goal.In_default) → is_over c.args.coming.now c.args.closing.now.items c.args.id ≡ false

@@ -1,7 +1,8 @@
 use Rattle.std.proofs.Common.{◌∙◌, set, Some, sym, ap, arith, rules}
+use Rattle.fab_base.proofs.Options.{not_some}
 use Rattle.fab_rx.specs.declared.results.Seen.{Seen}
 use Rattle.fab_rx.specs.Stored.{thrown_on}
-use Rattle.fab_rx.proofs.Parting.{source_within, begun_there, not_some, turns_to}
+use Rattle.fab_rx.proofs.Parting.{source_within, begun_there, turns_to}
 use Rattle.fab_rx.proofs.outgoing.throw.Goals as goal
 
 pub take_begun-requires : goal.take_begun-requires

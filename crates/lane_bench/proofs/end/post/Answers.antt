@@ -1,5 +1,5 @@
 use Rattle.std.proofs.Common.{arith}
-use Rattle.fab_wire.specs.Frames.{frame}
+use Rattle.fab_link.specs.Frames.{frame}
 use Rattle.fab_ring.specs.Ports.{out_of}
 use Rattle.fab_ring.proofs.Samples.{between_after}
 use Rattle.lane_bench.proofs.end.post.Goals as goal

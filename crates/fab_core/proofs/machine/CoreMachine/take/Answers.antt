@@ -1,4 +1,4 @@
-use Rattle.fab_wire.specs.Frames.{frame}
+use Rattle.fab_link.specs.Frames.{frame}
 use Rattle.fab_core.proofs.Feeding.{ends_within}
 use Rattle.fab_core.proofs.machine.CoreMachine.take.Goals as goal
 

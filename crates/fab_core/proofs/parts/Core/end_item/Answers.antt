@@ -11,7 +11,7 @@ use Rattle.fab_rx.specs.Results.{ended, handed, last_of}
 use Rattle.fab_core.specs.Parts.{Parts}
 use Rattle.fab_core.specs.Doing.{tail}
 use Rattle.fab_cq.specs.Queues.{has_room}
-use Rattle.fab_core.proofs.Steady.{item_there}
+use Rattle.fab_rx.proofs.Growing.{item_there}
 use Rattle.fab_core.proofs.Serves.{serving_served, serving_whole}
 use Rattle.fab_core.proofs.Handed.{ended_request, unhanded, received_due, request_room, end_last, last_due, last_there, end_answer, end_kept, end_received, end_thrown, if_begun, of_begun, end_request, request_awaited}
 use Rattle.fab_core.proofs.parts.Core.end_item.Goals as goal

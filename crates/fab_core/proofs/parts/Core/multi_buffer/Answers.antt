@@ -1,7 +1,7 @@
 use Rattle.std.proofs.Common.{◌≡◌, ◌∙◌, Some, None, sym, ap, subst}
 use Rattle.std.specs.Prelude.{IfNone, IfSome}
 use Rattle.fab_face.specs.Answers.{multi_of}
-use Rattle.fab_ends.specs.declared.places.Place.{Place}
+use Rattle.fab_settling.specs.declared.places.Place.{Place}
 use Rattle.fab_core.specs.Parts.{Parts, held_of}
 use Rattle.fab_core.specs.Multis.{HasBuffer}
 use Rattle.fab_core.proofs.Lends.{if_ended, if_ended_not, if_open, if_open_not, lends_no_one, no_place, none_of_place}

@@ -1,5 +1,6 @@
 use Rattle.std.proofs.Common.{◌∙◌, not, sym, ap}
-use Rattle.fab_core.proofs.Judging.{first_of_two, neither, none_of_two, or_left, or_right, second_of_two}
+use Rattle.std.proofs.lemmas.Bool.{or_left, or_right, or_from as neither}
+use Rattle.fab_core.proofs.Judging.{first_of_two, none_of_two, second_of_two}
 use Rattle.fab_core.proofs.parts.Core.seek_fault.Goals as goal
 
 pub returns-then-not-may_receive : goal.returns-then-not-may_receive

@@ -1,5 +1,5 @@
 use Rattle.std.proofs.lemmas.Bool.{eq-eqb}
-use Rattle.fab_wire.specs.Frames.{frame}
+use Rattle.fab_link.specs.Frames.{frame}
 use Rattle.fab_core.proofs.Feeding.{last_goes, last_lacks, last_room, last_room_back, last_whole, nothing_begun, stay_fed}
 use Rattle.fab_core.proofs.parts.Core.take_last.Goals as goal
 

@@ -1,4 +1,4 @@
-use Rattle.fab_wire.specs.Frames.{frame}
+use Rattle.fab_link.specs.Frames.{frame}
 use Rattle.fab_core.specs.Parts.{held_of}
 use Rattle.fab_core.proofs.Feeding.{goes_more}
 use Rattle.fab_core.proofs.parts.Core.take_more.Goals as goal

@@ -1,7 +1,7 @@
 use Rattle.fab_rx.specs.Arriving.{begun_of}
 use Rattle.std.proofs.Common.{◌≡◌, length}
+use Rattle.fab_rx.proofs.Growing.{item_there}
 use Rattle.fab_core.proofs.Handed.{whole_left, whole_next, whole_state}
-use Rattle.fab_core.proofs.Steady.{item_there}
 use Rattle.fab_core.proofs.parts.Core.take_whole.Goals as goal
 
 pub returns-clause-state : goal.returns-clause-state

@@ -1,6 +1,6 @@
 use Rattle.std.proofs.Common.{◌∙◌, sym, ap}
 use Rattle.std.proofs.lemmas.Bool.{eq-eqb}
-use Rattle.fab_ends.specs.Served.{writes_data}
+use Rattle.fab_settling.specs.Served.{writes_data}
 use Rattle.fab_core.proofs.Feeding.{writes_first, writes_reply, writes_request}
 use Rattle.fab_core.proofs.parts.Core.writes_when_whole.Goals as goal
 

@@ -1,8 +1,8 @@
 use Rattle.std.proofs.Common.{rules, refl, arith, ◌∷◌, [], length-append}
 use Rattle.fab_ep.specs.Value.{seen}
 use Rattle.fab_face.specs.declared.events.Event.TheVariants.{Draw}
+use Rattle.fab_face.proofs.Going.{drew_shorter}
 use Rattle.fab_ep.proofs.Accepting.{tied_drew}
-use Rattle.fab_ep.proofs.Due.{drew_shorter}
 use Rattle.fab_ep.proofs.endpoint.Endpoint.draw_one.Goals as goal
 
 pub returns-clause-less : goal.returns-clause-less

@@ -2,7 +2,7 @@ use Rattle.std.proofs.Common.{rules, refl, arith, ◌≡◌, ◌∙◌, ap, Ok, 
 use Rattle.fab_face.specs.Held.{piece}
 use Rattle.fab_ep.specs.Value.{seen}
 use Rattle.fab_face.specs.Machine.{gone_on}
-use Rattle.fab_wire.specs.Joined.{is_last}
+use Rattle.fab_link.specs.Joined.{is_last}
 use Rattle.fab_face.specs.declared.events.Event.TheVariants.{Sent}
 use Rattle.fab_ep.specs.Tries.{next_of}
 use Rattle.fab_face.specs.Ports.{lanes_in}

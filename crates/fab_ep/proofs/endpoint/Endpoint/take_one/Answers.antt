@@ -1,5 +1,5 @@
 use Rattle.std.proofs.Common.{rules, refl, ap, Ok, Some, None, ◌∷◌, []}
-use Rattle.fab_wire.specs.Frames.{lent_frame}
+use Rattle.fab_link.specs.Frames.{lent_frame}
 use Rattle.fab_face.specs.Acts.{Ported, Took}
 use Rattle.fab_face.specs.Ports.{lanes_in}
 use Rattle.fab_ep.specs.Value.{seen}

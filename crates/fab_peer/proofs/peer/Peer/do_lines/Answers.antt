@@ -1,7 +1,8 @@
 use Rattle.std.proofs.Common.{◌≡◌, ◌||◌, [], true, refl, ap, arith, ◌∙◌}
+use Rattle.fab_base.proofs.Bools.{or_true, not_true, not_false}
 use Rattle.fab_peer.specs.Turns.{told}
 use Rattle.fab_peer.proofs.Calling.{lived_same}
-use Rattle.fab_peer.proofs.Turning.{lines_end, lines_go_on, or_true, not_true, not_false}
+use Rattle.fab_peer.proofs.Turning.{lines_end, lines_go_on}
 use Rattle.fab_peer.proofs.peer.Peer.do_lines.Goals as goal
 
 pub returns-then-not-outcome : goal.returns-then-not-outcome

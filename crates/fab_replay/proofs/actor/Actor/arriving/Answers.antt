@@ -1,8 +1,9 @@
 use Rattle.std.proofs.Common.{◌≡◌, Some, None, sym, ap, ◌∙◌, rules}
 use Rattle.std.specs.Prelude.{slice_get, slice_index}
 use Rattle.std.specs.Option.{option_copied}
+use Rattle.fab_report.proofs.Pieces.{option_copied-get}
 use Rattle.fab_replay.specs.Seen.{actor_of}
-use Rattle.fab_replay.proofs.Gets.{option_copied-get, same_get}
+use Rattle.fab_replay.proofs.Gets.{same_get}
 use Rattle.fab_replay.proofs.Steps.{head_differs, head_waits, head_missing, head_arrives}
 use Rattle.fab_replay.proofs.actor.Actor.arriving.Goals as goal
 use Rattle.fab_replay.proofs.actor.Actor.arriving.Goals.{then-heads-tails-via-then-heads-tails, then-heads-tails-via-else-heads-tails+then-draw_due}

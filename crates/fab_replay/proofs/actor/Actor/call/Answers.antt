@@ -1,6 +1,6 @@
 use Rattle.std.proofs.Common.{ap}
 use Rattle.fab_model.specs.Peers.{with_state}
-use Rattle.fab_reference.specs.Seen.{state_of, seen_call}
+use Rattle.fab_checker_machine.specs.Seen.{state_of, seen_call}
 use Rattle.fab_replay.specs.Seen.{actor_of}
 use Rattle.fab_replay.proofs.Again.{call_again}
 use Rattle.fab_replay.proofs.actor.Actor.call.Goals as goal

@@ -1,6 +1,6 @@
 use Rattle.std.proofs.Common.{◌≡◌, ◌+◌, not, length, take, count_by, sum_by}
 use Rattle.fab_model.specs.State.{awaits}
-use Rattle.fab_halves.specs.Seen.{tx_of}
+use Rattle.fab_checker_halves.specs.Seen.{tx_of}
 use Rattle.fab_replay.proofs.actor.Actor.deferred.Given as goal
 
 -- those whose items wait, and those held for the peers so far

@@ -3,7 +3,7 @@ use Rattle.std.specs.Option.{option_copied, option_map}
 use Rattle.fab_model.specs.Calls.{call_of}
 use Rattle.fab_model.specs.Peers.{next_line, wait_line, call_line, do_next}
 use Rattle.fab_model.specs.Replay.{bind_line, bind_op}
-use Rattle.fab_reference.specs.Seen.{seen_call}
+use Rattle.fab_checker_machine.specs.Seen.{seen_call}
 use Rattle.fab_replay.specs.Seen.{actor_of}
 use Rattle.fab_replay.proofs.Steps.{next_wait, next_none, next_call, carried}
 use Rattle.fab_replay.proofs.actor.Actor.do_next.Goals as goal

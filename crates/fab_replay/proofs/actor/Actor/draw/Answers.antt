@@ -1,5 +1,5 @@
 use Rattle.std.proofs.Common.{refl, rules}
-use Rattle.fab_reference.specs.Seen.{state_of}
+use Rattle.fab_checker_machine.specs.Seen.{state_of}
 use Rattle.fab_replay.specs.Seen.{actor_of}
 use Rattle.fab_replay.proofs.Steps.{draw_none, draw_full, draw_some}
 use Rattle.fab_replay.proofs.actor.Actor.draw.Goals as goal

@@ -1,5 +1,5 @@
 use Rattle.std.proofs.Common.{arith, rules}
-use Rattle.fab_reference.specs.Seen.{state_of}
+use Rattle.fab_checker_machine.specs.Seen.{state_of}
 use Rattle.fab_replay.proofs.Steps.{may_is}
 use Rattle.fab_replay.proofs.actor.Actor.may_complete.Goals as goal
 

@@ -1,7 +1,7 @@
 use Rattle.std.proofs.Common.{refl, rules}
 use Rattle.fab_replay.specs.Seen.{actor_of}
 use Rattle.fab_replay.proofs.Steps.{sent_none, sent_full, sent_some}
-use Rattle.fab_reference.specs.Seen.{state_of}
+use Rattle.fab_checker_machine.specs.Seen.{state_of}
 use Rattle.fab_replay.proofs.actor.Actor.sent.Goals as goal
 use Rattle.fab_replay.proofs.actor.Actor.sent.Goals.{then-sent-accepted_len-via-then-sent-accepted_len, then-sent-accepted_len-via-else-sent-accepted_len+then-not-has_room}
 

@@ -2,7 +2,7 @@ use Rattle.std.proofs.Common.{◌≡◌, ℕ, ◌+◌, ◌*◌, ◌%◌, ◌<◌
 use Rattle.std.specs.Prelude.{None}
 use Rattle.std.proofs.lemmas.Option.{same_Some, none-some}
 use Rattle.std.specs.Arc.{arc_value}
-use Rattle.fab_wire.specs.Frames.{last_head, MayCome}
+use Rattle.fab_link.specs.Frames.{last_head, MayCome}
 use Rattle.fab_table.specs.declared.kinds.Sent.{Sent}
 use Rattle.fab_table.specs.declared.kinds.Slot.{Slot}
 use Rattle.fab_table.specs.declared.kinds.Slot.TheVariants.{Cell, Pool}
@@ -11,9 +11,11 @@ use Rattle.fab_table.specs.declared.kinds.Part.{Part}
 use Rattle.fab_table.specs.Views.{frames_of, part_at, in_at, with_in, saw_frame, saw_empty}
 use Rattle.fab_table.specs.Plays.{Sat, slot_home, oldest_of}
 use Rattle.fab_ring.specs.Hands.{shapes, Fits, Sees, Tells, Told, Ends, Comes}
-use Rattle.fab_ring.proofs.Hold.{get_any, flag_at, nothing, shapes_two, fits_empty, fits_open, fits_open_slot, got_len}
+use Rattle.fab_ring.proofs.Hold.{flag_at, shapes_two, fits_empty, fits_open, fits_open_slot, got_len}
 use Rattle.fab_ring.proofs.Rounds.{got_cell, cell_small}
 use Rattle.std.proofs.Math.Nat.{mod-lt}
+use Rattle.std.proofs.lemmas.List.{get_or_default as get_any}
+use Rattle.fab_base.proofs.Options.{not_some as nothing}
 use Rattle.fab_ring.proofs.Ends.{in_all}
 use Rattle.fab_ring.proofs.Told.{told_set, comes_in}
 use Rattle.fab_ring.proofs.Lasts.{ends_in}
@@ -90,3 +92,13 @@ invariant_of-self-in-Pooled c = let q = c.seek.new.self in let P = c.args.self.n
       counted = more;
       comes = subst (λ (z : Part). ∥ Comes z ∥₁) (sym all.1) ∣ comes_in p s u' p.moves inside (λ w e. subst (λ (v : Sent). MayCome (last_head None (frames_of u.taken)) v.frame) (same_Some x w e) got.8) (comes_now p q.comes) ∣₁;
     }
+
+pub returns-in-Empty-clause-saw : goal.returns-in-Empty-clause-saw
+returns-in-Empty-clause-saw c = λ _ _. let q = c.seek.new.self in let s : ℕ = c.args.src in let near : s < (arc_value q.fabric).peers = subst (λ t. s < t.peers) (sym c.seek.ensures.port.0) c.requires in record {
+  seat = q.seat.seat.me;
+  alone = q.at.1;
+  knew = c.seek.ensures.part;
+  shown = c.index-got.result.now;
+  step = c.open_next-found.ensures.saw c.in-Empty.is;
+  all = got_len _ _ _ _ _ _ _ _ _ _ _ _ q.fits s c.index-got.result.now near c.index-got.ensures ∙ ap (λ (z : Part). length (in_at z s).taken) c.seek.ensures.part;
+}

@@ -1,22 +1,19 @@
-use Rattle.std.proofs.Common.{◌≡◌, ℕ, ◌<◌, ◌≤◌, false, [], length, take, get_or, sym, ap, ◌∙◌, subst, arith}
-use Rattle.std.specs.Prelude.{Option, Some, None}
+use Rattle.std.proofs.Common.{◌≡◌, ℕ, ◌<◌, ◌≤◌, [], length, take, get_or, sym, ap, ◌∙◌, subst, arith}
+use Rattle.std.specs.Prelude.{Some, None}
 use Rattle.std.proofs.lemmas.Option.{slice_get-get_or}
-use Rattle.std.specs.Option.{is_some}
 use Rattle.std.specs.Arc.{arc_value}
 use Rattle.fab_table.specs.declared.kinds.Command.{Command}
 use Rattle.fab_table.specs.declared.kinds.Sent.{Sent}
 use Rattle.fab_table.specs.declared.kinds.In.{In}
 use Rattle.fab_table.specs.declared.kinds.Part.{Part}
 use Rattle.fab_table.specs.Views.{part_at, in_at}
-use Rattle.fab_ring.proofs.Hold.{get_any, nothing, something}
 use Rattle.fab_ring.proofs.Facts.{comes_now}
 use Rattle.std.proofs.Common.{length-take-le}
-use Rattle.fab_wire.specs.Frames.{frame}
+use Rattle.std.proofs.lemmas.List.{get_or_default as get_any}
+use Rattle.fab_base.proofs.Options.{some_there as something, not_some as no_slot}
+use Rattle.fab_link.specs.Frames.{frame}
 use Rattle.fab_ring.specs.Ports.{frame_in}
 use Rattle.fab_ring.proofs.port.RingPort.open_frame.Goals as goal
-
-no_slot : (o : Option ℕ) → is_some o ≡ false → o ≡ None
-no_slot o e = nothing o e
 
 pub shared_ref_as_front-result : goal.shared_ref_as_front-result
 shared_ref_as_front-result c = let q = c.args.self.now in let f = arc_value q.fabric in let s : ℕ = c.args.src in let near : s < f.peers = c.requires.0 in let p : Part = part_at q.seat.seat.me.0 0 in let u : In = in_at p s in

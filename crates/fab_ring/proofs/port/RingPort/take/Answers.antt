@@ -5,8 +5,8 @@ use Rattle.std.proofs.lemmas.Option.{same_Some, none-some, slice_get-get_or}
 use Rattle.std.specs.Arc.{arc_value}
 use Rattle.atomic_table.specs.Table.{rest}
 use Rattle.fab_base.specs.declared.frames.FrameHead.{FrameHead}
-use Rattle.fab_wire.specs.declared.moves.Move.{Move}
-use Rattle.fab_wire.specs.declared.moves.Move.TheVariants.{Take}
+use Rattle.fab_link.specs.declared.moves.Move.{Move}
+use Rattle.fab_link.specs.declared.moves.Move.TheVariants.{Take}
 use Rattle.fab_table.specs.declared.kinds.Command.{Command}
 use Rattle.fab_table.specs.declared.kinds.Sent.{Sent}
 use Rattle.fab_table.specs.declared.kinds.Slot.{Slot}
@@ -17,10 +17,11 @@ use Rattle.fab_table.specs.Plays.{Sat, oldest_of}
 use Rattle.fab_ring.specs.Hands.{shapes, held, Fits, Sees, Told, Ends, Comes, ups}
 use Rattle.fab_ring.proofs.Hold.{behind, cell_first, fits_first, fits_take, got_len}
 use Rattle.fab_ring.proofs.Ends.{in_over, in_all}
-use Rattle.fab_ring.proofs.Told.{told_in, comes_in, opened_is}
+use Rattle.fab_ring.proofs.Told.{told_in, comes_in}
 use Rattle.fab_ring.proofs.Lasts.{ends_take}
 use Rattle.fab_ring.proofs.Rounds.{got_cell, rounds_got}
 use Rattle.std.proofs.Math.Nat.{mod-lt}
+use Rattle.fab_base.proofs.Options.{there_is as opened_is}
 use Rattle.fab_ring.proofs.Facts.{comes_now}
 use Rattle.fab_ring.proofs.Seeing.{sees_in}
 use Rattle.fab_ring.proofs.Counting.{ups_less}

@@ -1,5 +1,6 @@
 use Rattle.std.proofs.Common.{◌≡◌, ◌∙◌, true, false, List, None, Option, Some, sym, ap, rules}
 use Rattle.std.specs.Prelude.{find, is_some}
+use Rattle.fab_base.proofs.Options.{some_there as there_is}
 use Rattle.fab_match.specs.Matcher.{first_id, ids}
 use Rattle.fab_match.specs.Signs.{fits}
 use Rattle.fab_rx.specs.declared.stored.Begun.{Begun}
@@ -10,7 +11,6 @@ use Rattle.fab_rx.specs.Sharing.{is_closed, multi_at}
 use Rattle.fab_rx.proofs.Drawing.{undrawn, undue}
 use Rattle.fab_rx.proofs.Leaving.{passes}
 use Rattle.fab_rx.proofs.Finding.{message_there}
-use Rattle.fab_rx.proofs.Shutting.{there_is}
 use Rattle.fab_rx.proofs.Draught.{drawer_told, one_counts, rest_drawn, two_count, usable_drawn}
 use Rattle.fab_rx.proofs.inbox.Inbox.draw_entries.Goals as goal
 

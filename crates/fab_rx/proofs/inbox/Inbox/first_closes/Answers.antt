@@ -1,6 +1,7 @@
 use Rattle.std.proofs.Common.{◌≡◌, ◌∙◌, ◌<◌, true, false, List, None, Option, Some, length, sym, ap, subst, rules}
 use Rattle.std.specs.Prelude.{is_some}
-use Rattle.fab_model.specs.Matching.{is_message}
+use Rattle.fab_base.proofs.Options.{some_there as there_is}
+use Rattle.fab_base.specs.Kinds.{is_message}
 use Rattle.fab_match.specs.Matcher.{first_id}
 use Rattle.fab_match.specs.Signs.{fits}
 use Rattle.fab_rx.specs.declared.stored.Begun.{Begun}
@@ -8,7 +9,7 @@ use Rattle.fab_rx.specs.Table.{at}
 use Rattle.fab_rx.specs.Sharing.{is_closed, multi_at}
 use Rattle.fab_rx.specs.Arriving.{Arriving, begun_of}
 use Rattle.fab_rx.proofs.Keeping.{seat_missed}
-use Rattle.fab_rx.proofs.Shutting.{first_kept, first_multi, first_other, first_single, first_usable, there_is}
+use Rattle.fab_rx.proofs.Shutting.{first_kept, first_multi, first_other, first_single, first_usable}
 use Rattle.fab_rx.proofs.inbox.Inbox.first_closes.Goals as goal
 
 pub returns-then-not-is_message : goal.returns-then-not-is_message

@@ -1,7 +1,7 @@
 use Rattle.std.proofs.Common.{◌≡◌, count_by, ap, ◌∙◌, arith}
+use Rattle.fab_base.proofs.Lists.{count_others}
 use Rattle.fab_model.specs.State.{awaits}
 use Rattle.fab_tx.specs.Transit.{Transit}
-use Rattle.fab_tx.proofs.Fenced.{count_others}
 use Rattle.fab_tx.proofs.outbox.Outbox.deferred.Goals as goal
 
 pub returns : goal.returns

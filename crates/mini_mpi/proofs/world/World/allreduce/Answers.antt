@@ -1,5 +1,5 @@
 use Rattle.std.proofs.Common.{ℕ, ◌<◌, ◌∙◌, length, refl, subst}
-use Rattle.fab_fold.specs.declared.coll.Coll.TheVariants.{Allreduce}
+use Rattle.fabric.specs.Words.{Allreduce}
 use Rattle.mini_mpi.specs.Collecting.{standing_of}
 use Rattle.mini_mpi.proofs.Pieces.{none_pieced, one_piece, within}
 use Rattle.mini_mpi.proofs.world.World.allreduce.Goals as goal

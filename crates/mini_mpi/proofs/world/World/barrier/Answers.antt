@@ -1,7 +1,6 @@
 use Rattle.std.proofs.Common.{◌≡◌, []}
 use Rattle.fabric.specs.Beginning.{IsFresh, work_of}
-use Rattle.fab_collectives.specs.declared.collective.Collective.{Collective}
-use Rattle.fab_fold.specs.declared.coll.Coll.TheVariants.{Barrier}
+use Rattle.fabric.specs.Words.{Barrier, Collective}
 use Rattle.mini_mpi.proofs.Collecting.{collected, of_ok, on_ok}
 use Rattle.mini_mpi.proofs.world.World.barrier.Goals as goal
 

@@ -1,5 +1,5 @@
 use Rattle.std.proofs.Common.{◌≡◌}
-use Rattle.fab_fold.specs.declared.coll.Coll.TheVariants.{Broadcast}
+use Rattle.fabric.specs.Words.{Broadcast}
 use Rattle.mini_mpi.specs.Collecting.{standing_of}
 use Rattle.mini_mpi.proofs.Pieces.{Pieced}
 use Rattle.mini_mpi.proofs.world.World.bcast.Given as goal

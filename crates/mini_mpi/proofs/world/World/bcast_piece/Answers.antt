@@ -1,7 +1,6 @@
 use Rattle.std.proofs.Common.{◌≡◌, ◌∙◌}
 use Rattle.fabric.specs.Beginning.{IsFresh, work_of}
-use Rattle.fab_collectives.specs.declared.collective.Collective.{Collective}
-use Rattle.fab_fold.specs.declared.coll.Coll.TheVariants.{Broadcast}
+use Rattle.fabric.specs.Words.{Broadcast, Collective}
 use Rattle.mini_mpi.specs.Collecting.{piece_at, standing_of}
 use Rattle.mini_mpi.proofs.Collecting.{collected, of_ok, on_ok}
 use Rattle.mini_mpi.proofs.Pieces.{placed}

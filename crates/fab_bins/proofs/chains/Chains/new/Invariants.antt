@@ -1,5 +1,0 @@
-use Rattle.fab_bins.proofs.Writes.{AreAlone}
-use Rattle.fab_bins.proofs.chains.Chains.new.Given as goal
-
-abbrev pub invariant-loop-head : goal.invariant-loop-head
-invariant-loop-head l = AreAlone l.links.items l.head

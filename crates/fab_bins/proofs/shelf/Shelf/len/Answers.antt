@@ -1,6 +1,0 @@
-use Rattle.std.proofs.Common.{◌∙◌, sym}
-use Rattle.fab_bins.proofs.Keeping.{length-cards}
-use Rattle.fab_bins.proofs.shelf.Shelf.len.Goals as goal
-
-pub returns : goal.returns
-returns g c = c.len.ensures ∙ sym (length-cards c.args.self.now c.requires)

@@ -1,9 +1,0 @@
-use Rattle.std.proofs.Common.{◌-◌, ◌≤◌, ◌<◌, length}
-use Rattle.fab_bins.specs.Chains.{IsChain, next_of}
-use Rattle.fab_bins.specs.Shelf.{held}
-use Rattle.fab_bins.proofs.Walking.{Walks}
-use Rattle.fab_bins.proofs.shelf.first_of.Given as goal
-
-abbrev pub invariant-loop : goal.invariant-loop
-invariant-loop g l = (l.head < l.chains.heads) × (l.counter ≤ l.end)
-    × Walks l.chains.heads (length l.chains.links.items) (next_of l.chains.links.items) (held l.cards (λ card. g.T.Test.passes l.test card)) (λ xs. IsChain l.chains l.head xs) l.node (l.end - l.counter) l.head

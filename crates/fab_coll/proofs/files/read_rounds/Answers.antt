@@ -1,5 +1,0 @@
-use Rattle.fab_coll.proofs.Within.{read_within}
-use Rattle.fab_coll.proofs.files.read_rounds.Goals as goal
-
-pub returns-clause-within : goal.returns-clause-within
-returns-clause-within c = read_within c.args.bytes.now c.read.result c.read.ensures

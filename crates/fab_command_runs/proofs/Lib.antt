@@ -1,0 +1,3 @@
+pub mod Plans
+mod Telling
+pub mod Rounds

@@ -1,0 +1,4 @@
+pub mod Planned
+pub mod Texts
+pub mod Commands
+pub mod Files

@@ -1,4 +1,0 @@
-pub mod Fixed
-pub mod Walking
-pub mod Hearing
-pub mod Saying

@@ -1,5 +1,0 @@
-use Rattle.fab_heard.proofs.Hearing.{heard_in_turn}
-use Rattle.fab_heard.proofs.law_heard.Goals as goal
-
-pub returns : goal.returns
-returns c = record { heard = heard_in_turn }

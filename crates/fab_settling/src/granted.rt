@@ -1,0 +1,52 @@
+//! What the capabilities that were granted allow (fi_getinfo(3)).
+ghost use Rattle.std.specs.Prelude.{◌≡◌, Some, None};
+ghost use Rattle.fab_model.specs.Sending.{atom_is_granted, is_granted};
+ghost use Rattle.fab_face.specs.Machine.{kind_of};
+ghost use Rattle.fab_face.specs.Requesting.{atom_asked, kind_asked};
+ghost use Rattle.fab_settling.specs.Orders.{lacks};
+
+use fab_base::{Access, Atom, AtomicOp, Caps, Form};
+use fab_face::requesting::Asked;
+
+/// Whether messages of this kind may be sent (FI_MSG, FI_TAGGED and FI_SEND of fi_getinfo(3)).
+pub fn may_send(caps: &Caps, tagged: bool) -> bool
+    ensures { result ≡ is_granted caps.now (kind_of tagged) None }
+{
+    if tagged {
+        caps.tagged && caps.send
+    } else {
+        caps.msg && caps.send
+    }
+}
+
+/// Whether an atomic of this form may be asked for besides FI_ATOMIC (FI_READ, FI_WRITE).
+fn may_ask_atom(caps: &Caps, atom: Atom) -> bool
+    ensures { result ≡ atom_is_granted caps.now (Some atom) }
+{
+    match atom.form {
+        Form::Base => caps.write,
+        Form::Compare => caps.read && caps.write,
+        Form::Fetch => match atom.op {
+            AtomicOp::AtomicRead => caps.read,
+            _ => caps.read && caps.write,
+        },
+    }
+}
+
+/// Whether this may be asked for (FI_RMA, FI_ATOMIC, FI_READ and FI_WRITE of fi_getinfo(3)).
+pub fn may_ask(caps: &Caps, asked: Asked) -> bool
+    ensures { result ≡ is_granted caps.now (kind_asked asked) (atom_asked asked) }
+{
+    match asked {
+        Asked::Read => caps.rma && caps.read,
+        Asked::Write => caps.rma && caps.write,
+        Asked::Atomic(atom) => caps.atomic && may_ask_atom(caps, atom),
+    }
+}
+
+/// Whether a right that the region would give was not granted.
+pub fn lacks(caps: &Caps, access: Access) -> bool
+    ensures { result ≡ lacks caps.now access }
+{
+    access.remote_read && !caps.remote_read || access.remote_write && !caps.remote_write
+}

@@ -1,5 +1,0 @@
-use Rattle.fab_wire.proofs.Joining.{joined-prefix}
-use Rattle.fab_wire.proofs.laws.law_prefix_joins.Goals as goal
-
-pub returns : goal.returns
-returns c = joined-prefix

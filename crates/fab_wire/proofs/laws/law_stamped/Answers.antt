@@ -1,5 +1,0 @@
-use Rattle.fab_wire.proofs.Merging.{stamped_merge}
-use Rattle.fab_wire.proofs.laws.law_stamped.Goals as goal
-
-pub returns : goal.returns
-returns c = stamped_merge

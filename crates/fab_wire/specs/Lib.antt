@@ -1,5 +1,0 @@
-pub mod Frames
-pub mod Cut
-pub mod Joined
-pub mod Merged
-pub mod Owing

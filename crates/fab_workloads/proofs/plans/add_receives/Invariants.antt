@@ -1,0 +1,8 @@
+use Rattle.std.proofs.Common.{filter, map, ◌++◌, ◌≡◌}
+use Rattle.fab_model.specs.Calls.{upto}
+use Rattle.fab_workloads.specs.Plan.{receive_of}
+use Rattle.fab_fold.specs.Shares.{needs}
+use Rattle.fab_workloads.proofs.plans.add_receives.Given as goal
+
+abbrev pub invariant-loop-s : goal.invariant-loop-s
+invariant-loop-s l = l.ops.items ≡ l.fn.ops.items ++ map (receive_of l.i l.round) (filter (λ s. needs l.round.coll l.r s) (upto l.s))
