@@ -1,5 +1,5 @@
 -- A line that a peer does alone, and what it makes of the peer.
-use Rattle.std.proofs.Common.{◌≡◌, ◌≢◌, ℕ, ◌+◌, length, Bool, true, false, List, [], ◌∷◌, ◌++◌, map, Option, Some, None, Result, Ok, Err, OnOk, IfOk, IfErr, refl, sym, ap, ◌∙◌, subst, subst₂}
+use Rattle.std.proofs.Common.{◌≡◌, ◌≢◌, ℕ, ◌+◌, length, Bool, true, false, List, [], ◌∷◌, ◌++◌, map, Option, Some, None, Result, Ok, Err, OnOk, IfOk, IfErr, inl, refl, sym, ap, ◌∙◌, subst, subst₂}
 use Rattle.std.specs.Prelude.{nat_le, nat_lt, position}
 use Rattle.std.specs.Option.{option_map}
 use Rattle.fab_base.specs.declared.items.Access.{Access}
@@ -116,6 +116,8 @@ module _ {Home : Type 0} where
     is_done = λ was. refl;
     lines = refl;
     counted = λ c. counted_noted a.lines a.results a.kept e.held outcome plain (grown c);
+    one = refl;
+    waits = λ nay. absurd (cc nay);
   })
 
   pub here_line : (a b : Told Home) (e : Seen Home) (call : Call) (outcome : LineResult) → ((ctx : ℕ) → waited_back ctx outcome ≡ false) → IsCalled a.lines a.results a.kept call → IsFinal call → a.seen.log ≡ []
@@ -209,6 +211,8 @@ module _ {Home : Type 0} where
     is_done = λ was. absurd (cc was);
     lines = refl;
     counted = λ c. c;
+    one = refl;
+    waits = λ d. inl (next_is (actor_of a) (line.Reach class n) next ∙ rw (less, do_line) refl);
   })
 
   pub reach_done : (a b : Told Home) (class : Class) (n : ℕ) → next_op a ≡ Some (line.Reach class n) → nat_le n (tally_of a.seen.held.state.counters class).ok ≡ true → a.seen.log ≡ [] → b ≡ noted Done a → WentOn a b true true

@@ -37,7 +37,7 @@ use Rattle.fab_peer.specs.declared.peer.Outcome.{Outcome}
 use Rattle.fab_peer.specs.Looks.{look_line}
 use Rattle.fab_peer.specs.Turns.{Told, living_of, actor_in, actor_of, hands_back, waited_back, multis_done, IsCounted, SameParts, Lives, Lived, WentOn, Answered, why_of, drained, with_seen, is_only, LentIf, Lent, HasRead, is_some_act, is_some_event, next_op, step_of, ReadOn, is_read}
 use Rattle.fab_face.proofs.Joining.{posts_move, draws_move, ported_did, ported_had, ported_same, ported_then}
-use Rattle.fab_peer.proofs.Paths.{living, lives_append, goes_split, moves_live, posts_some, draws_some, some_did, none_acts, steps_told, steps_called, some_append, lived_then}
+use Rattle.fab_peer.proofs.Paths.{living, lives_append, goes_split, moves_live, posts_some, draws_some, some_did, no_line, one_line, none_acts, steps_told, steps_called, some_append, lived_then}
 use Rattle.fab_peer.proofs.Counting.{IsMarked, MarkedBy, counted_moves, counted_noted, counted_call, counted_waited, counted_read, lent_is}
 
 -- ---- one line
@@ -194,6 +194,22 @@ module _ {Home : Type 0} (call : Call) (old new : Seen Home) (short : Type 0) wh
   judged_again NoEntry j again long = absurd (cc)
   judged_again Avail j again long = absurd (cc)
 
+  -- a call that is to come again: the machine says so, or the log is short
+  pub judged_waits : (f : Fault) → Judged call old new short f → is_again (Refused f) ≡ true → (do_call new.held.state call ≡ (Refused f, new.held.state)) ⊎ short
+  judged_waits (Again (TxFull n)) j again = inl j.0
+  judged_waits (Again (PostedFull n)) j again = inl j.0
+  judged_waits (Again (CqFull n)) j again = inl j.0
+  judged_waits (Again (LogFull n)) j again = inr j.1
+  judged_waits LacksMemory j again = absurd (cc)
+  judged_waits NoData j again = absurd (cc)
+  judged_waits Invalid j again = absurd (cc)
+  judged_waits NoKey j again = absurd (cc)
+  judged_waits Range j again = absurd (cc)
+  judged_waits MsgSize j again = absurd (cc)
+  judged_waits NotSupported j again = absurd (cc)
+  judged_waits NoEntry j again = absurd (cc)
+  judged_waits Avail j again = absurd (cc)
+
 -- an answer leaves the endpoint as it is
 pub answered_seen : {Home : Type 0} (r : Result (Unit {0}) Fault) (a b : Told Home) (done : Bool) → Answered r a b done → b.seen ≡ a.seen
 answered_seen (Ok u) a b done (was, is) = ap (λ (x : Told _). x.seen) is
@@ -257,6 +273,8 @@ module _ {Home : Type 0} (a : Told Home) (e : Seen Home) (call : Call) (next : I
         is_done = λ was. refl;
         lines = refl;
         counted = counted_call a.lines a.results a.kept call ok.before ok.after a.seen.held e.held next.1 before after ok.went.goes;
+        one = one_line ok.before ok.after before after;
+        waits = λ nay. absurd (cc nay);
       })
   sends_on fixed dest buf (Err r) b true sound ok err (final, memory, is) =
       let nay = err.1 in
@@ -270,20 +288,25 @@ module _ {Home : Type 0} (a : Told Home) (e : Seen Home) (call : Call) (next : I
         is_done = λ was. refl;
         lines = refl;
         counted = λ c. counted_noted a.lines a.results a.kept e.held (Refused r.why) (λ ctx. refl) (counted_moves a.lines a.results a.kept (Some call) nay.acts a.seen.held e.held moves nay.went.goes c);
+        one = one_line nay.acts [] moves refl;
+        waits = λ nay. absurd (cc nay);
       })
   sends_on fixed dest buf (Err r) b false sound ok err (again, is) =
       let nay = err.1 in
       let moves = posts_move nay.acts nay.push in
+      let waits_now = again_held e.held a.lines a.results a.kept call (Refused r.why) next
+      (judged_again call a.seen e (IsShort a.seen) r.why nay.judged again (λ short. (let l : length a.seen.log ≡ 0 = ap length none in omega (arith, short, l, sound.log)))) again in
       rw is (record {
         acts = nay.acts;
         lived = lived_moves nay.acts (Some call) moves nay.went;
         moved_is = nay.pushed ∙ posts_some nay.acts nay.push;
-        held = λ d m. again_held e.held a.lines a.results a.kept call (Refused r.why) next
-            (judged_again call a.seen e (IsShort a.seen) r.why nay.judged again (λ short. (let l : length a.seen.log ≡ 0 = ap length none in omega (arith, short, l, sound.log)))) again;
+        held = λ d m. waits_now;
         log = refl;
         is_done = λ was. absurd (cc was);
         lines = refl;
         counted = counted_moves a.lines a.results a.kept (Some call) nay.acts a.seen.held e.held moves nay.went.goes;
+        one = no_line nay.acts moves;
+        waits = λ d. inl waits_now;
       })
 
   pub receives_on : (r : Result (Unit {0}) Fault) (b : Told Home) (done : Bool) → IsOpen a.seen → IsOpen e
@@ -301,6 +324,8 @@ module _ {Home : Type 0} (a : Told Home) (e : Seen Home) (call : Call) (next : I
         is_done = λ was. refl;
         lines = refl;
         counted = counted_call a.lines a.results a.kept call ok.before ok.after a.seen.held e.held next.1 before after ok.went.goes;
+        one = one_line ok.before ok.after before after;
+        waits = λ nay. absurd (cc nay);
       })
   receives_on (Err f) b true sound opened ok nay (final, memory, is) =
       let moves = draws_move nay.acts nay.draws in
@@ -313,6 +338,8 @@ module _ {Home : Type 0} (a : Told Home) (e : Seen Home) (call : Call) (next : I
         is_done = λ was. refl;
         lines = refl;
         counted = λ c. counted_noted a.lines a.results a.kept e.held (Refused f) (λ ctx. refl) (counted_moves a.lines a.results a.kept (Some call) nay.acts a.seen.held e.held moves nay.went.goes c);
+        one = one_line nay.acts [] moves refl;
+        waits = λ nay. absurd (cc nay);
       })
   receives_on (Err f) b false sound opened ok nay (again, is) =
       let moves = draws_move nay.acts nay.draws in
@@ -327,11 +354,20 @@ module _ {Home : Type 0} (a : Told Home) (e : Seen Home) (call : Call) (next : I
         is_done = λ was. absurd (cc was);
         lines = refl;
         counted = counted_moves a.lines a.results a.kept (Some call) nay.acts a.seen.held e.held moves nay.went.goes;
+        one = no_line nay.acts moves;
+        waits = λ d. elim (judged_waits call a.seen e _ f nay.judged again) [
+          | inl there ↦ inl (again_held e.held a.lines a.results a.kept call (Refused f) next there again)
+          | inr short ↦ inr (still_due short)
+        ];
       })
     where
       not_short : (acts : List Act) → acts ≡ [] → e.log ≡ a.seen.log ++ events acts → (IsShort a.seen ⊎ ((draw_due e.held.state.rx ≡ true) × (e.log_size ≡ length e.log + 1))) → ⊥
       not_short acts is log (inl short) = let l : length a.seen.log ≡ 0 = ap length none in omega (arith, short, l, sound.log)
       not_short acts is log (inr left) = let l : length e.log ≡ 0 = ap length (still_log acts is log) in omega (arith, left.1, l, opened.log)
+
+      still_due : IsShort a.seen ⊎ ((draw_due e.held.state.rx ≡ true) × (e.log_size ≡ length e.log + 1)) → draw_due e.held.state.rx ≡ true
+      still_due (inl short) = let l : length a.seen.log ≡ 0 = ap length none in absurd (omega (arith, short, l, sound.log))
+      still_due (inr left) = left.0
 
   -- the same, as a function of a peer sees them
   pub sends_line : (fixed : Bool) (dest : ℕ) (buf : List ℕ) (r : Result (Unit {0}) RefusedWith) (why : Result (Unit {0}) Fault) (b : Told Home) (out : Result Outcome NoMemory) → IsOpen a.seen
@@ -387,6 +423,8 @@ module _ {Home : Type 0} where
     is_done = λ was. absurd (cc was);
     lines = refl;
     counted = λ c. c;
+    one = refl;
+    waits = λ d. inl (next_is (actor_of a) (Wait ctx) next ∙ rw (none, wait_line) refl);
   })
 
   pub wait_done : (a b : Told Home) (ctx : Option ℕ) (k : Kept) → next_op a ≡ Some (Wait ctx) → find (is_of_ctx ctx) a.kept ≡ Some k → a.seen.log ≡ []
@@ -408,9 +446,11 @@ module _ {Home : Type 0} where
         is_done = λ was. refl;
         lines = refl;
         counted = counted_waited a.lines a.results a.kept a.seen.held (is_of_ctx ctx) k found;
+        one = refl;
+        waits = λ nay. absurd (cc nay);
       })
 
-  read_lives : (a : Told Home) (w : Written) → unread a.seen.held.state.cq ≡ Some w
+  pub read_lives : (a : Told Home) (w : Written) → unread a.seen.held.state.cq ≡ Some w
       → Lives (living_of a) Had (living_of (record a { seen = after_read w a.seen; kept = a.kept ++ record { entry = w.entry; bytes = bytes_kept (actor_of a) w } ∷ [] }))
   unfolding read_next
   read_lives a w first = (rw (first, read_next) refl, (refl, refl))
@@ -513,4 +553,6 @@ finished_on a none log = record {
   is_done = λ was. absurd (cc was);
   lines = refl;
   counted = λ c. c;
+  one = refl;
+  waits = λ d. inl (rw (none, do_next) refl);
 }

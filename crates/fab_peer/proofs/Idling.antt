@@ -76,7 +76,7 @@ module _ {Home : Type 0} (a : Told Home) (e : Seen Home) (m : Moved) (none : a.s
       by_stop StoppedCqFull is back = absurd (never_held a.seen e back (subst (λ (h : Held). h.state.cq.taken_out ≡ length h.state.cq.written) same read) opened.cq)
       by_stop StoppedLogFull is short = let l : length e.log ≡ 0 = ap length log in absurd (omega (arith, short, l, opened.log))
 
-  pub moved_on : (d : Told Home) (logged moved : Bool) → d ≡ drained (with_seen a e) → logged ≡ is_some_event e.log → moved ≡ ((nat_lt 0 m.taken || nat_lt 0 m.posted) || logged) → MovedOn a d moved
+  pub moved_on : (d : Told Home) (logged moved : Bool) → d ≡ drained (with_seen a e) → logged ≡ is_some_event e.log → moved ≡ ((nat_lt 0 m.taken || nat_lt 0 m.posted) || logged) → MovedOn fixed a d moved
   moved_on d logged moved is is_logged is_moved =
       let events_are : e.log ≡ events p.acts = p.went.log ∙ ap (λ l. l ++ events p.acts) none in
       let some : moved ≡ is_some_act p.acts =
@@ -84,6 +84,10 @@ module _ {Home : Type 0} (a : Told Home) (e : Seen Home) (m : Moved) (none : a.s
       ∙ ap (λ n. (nat_lt 0 n || nat_lt 0 m.posted) || is_some_event (events p.acts)) p.counted.0
       ∙ ap (λ n. (nat_lt 0 (count_by is_take p.acts) || nat_lt 0 n) || is_some_event (events p.acts)) p.counted.1 ∙ moved_some p.acts p.moves in
       rw is (record {
+        near = e;
+        answer = m;
+        progressed = p;
+        is = refl;
         acts = p.acts;
         lived = record {
           lives = moves_live None p.acts a.seen.held e.held a.lines a.results a.kept p.moves p.went.goes;

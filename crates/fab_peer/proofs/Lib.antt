@@ -12,3 +12,5 @@ pub mod Agreeing
 pub mod Ending
 pub mod Resting
 pub mod Filling
+pub mod Leaving
+pub mod Lapping

@@ -1,5 +1,7 @@
 -- How the acts of a peer join, and what they tell.
-use Rattle.std.proofs.Common.{◌≡◌, Bool, true, false, ◌||◌, List, [], ◌∷◌, ◌++◌, map, Option, refl, sym, ap, ◌∙◌, subst, append_assoc}
+use Rattle.std.proofs.Common.{◌≡◌, ◌+◌, Bool, true, false, ◌||◌, List, [], ◌∷◌, ◌++◌, map, Option, refl, sym, ap, ◌∙◌, subst, append_assoc, arith}
+use Rattle.std.specs.Prelude.{cond, count_by}
+use Rattle.std.proofs.lemmas.List.Sums.{sum_by-append, sum_by-cons}
 use Rattle.std.proofs.lemmas.List.{map-append}
 use Rattle.std.proofs.lemmas.Grind.{flat_map-append}
 use Rattle.std.specs.List.{list_any}
@@ -13,7 +15,7 @@ use Rattle.fab_face.proofs.Joining.{ported_then}
 use Rattle.fab_face.specs.Acts.{Act, Did, Took, Posted, Drew, Had, GoesBy, events, logged, steps_by, steps_of, only, is_first, is_move, is_post, is_draw}
 use Rattle.fab_link.specs.Joined.{is_last}
 use Rattle.fab_face.specs.Answers.{AllAre}
-use Rattle.fab_peer.specs.Turns.{Told, Living, living_of, LivesBy, Lived, step_of, is_some_act, is_some_event}
+use Rattle.fab_peer.specs.Turns.{Told, Living, living_of, LivesBy, Lived, step_of, is_some_act, is_some_event, is_line, is_read}
 
 abbrev pub living : Held → List Line → List LineResult → List Kept → Living
 living held lines results kept = record { held = held; lines = lines; results = results; kept = kept }
@@ -61,6 +63,36 @@ draws_some (Had ∷ acts) are = absurd (cc)
 pub some_did : (xs ys : List Act) → is_some_act (xs ++ Did ∷ ys) ≡ true
 some_did [] ys = refl
 some_did (x ∷ xs) ys = refl
+
+-- ---- lines among acts
+
+pub count_acts : (test : Act → Bool) (xs ys : List Act) → count_by test (xs ++ ys) ≡ count_by test xs + count_by test ys
+count_acts test xs ys = sum_by-append (λ x. cond (test x) 1 0) xs ys
+
+count_first : (test : Act → Bool) (x : Act) (xs : List Act) → count_by test (x ∷ xs) ≡ cond (test x) 1 0 + count_by test xs
+count_first test x xs = sum_by-cons (λ y. cond (test y) 1 0) x xs
+
+-- moves do no line
+pub no_line : (acts : List Act) → AllAre is_move acts → count_by is_line acts ≡ 0
+no_line [] are = refl
+no_line (Did ∷ acts) are = absurd (cc)
+no_line (Took source f ∷ acts) are = let first = count_first is_line (Took source f) acts in let rest = no_line acts are in omega (arith, first, rest)
+no_line (Posted dest f ∷ acts) are = let first = count_first is_line (Posted dest f) acts in let rest = no_line acts are in omega (arith, first, rest)
+no_line (Drew ∷ acts) are = let first = count_first is_line Drew acts in let rest = no_line acts are in omega (arith, first, rest)
+no_line (Had ∷ acts) are = absurd (cc)
+
+pub one_line : (before after : List Act) → AllAre is_move before → AllAre is_move after → count_by is_line (before ++ Did ∷ after) ≡ 1
+one_line before after b a =
+    let parts = count_acts is_line before (Did ∷ after) in let last = count_first is_line Did after in let none = no_line before b in let no_more = no_line after a in omega (arith, parts, last, none, no_more)
+
+-- nor do reads
+pub none_read : (acts : List Act) → AllAre is_read acts → count_by is_line acts ≡ 0
+none_read [] are = refl
+none_read (Did ∷ acts) are = absurd (cc)
+none_read (Took source f ∷ acts) are = absurd (cc)
+none_read (Posted dest f ∷ acts) are = absurd (cc)
+none_read (Drew ∷ acts) are = absurd (cc)
+none_read (Had ∷ acts) are = let first = count_first is_line Had acts in let rest = none_read acts are in omega (arith, first, rest)
 
 pub none_acts : (acts : List Act) → is_some_act acts ≡ false → acts ≡ []
 none_acts [] none = refl

@@ -6,7 +6,7 @@
 --     IsStill a b       nothing can be done, as the turn from a to b itself saw
 --     IsCounted p       the endpoint's multi-receives and the releases read, against the peer's lines
 --     Ended a b         the last steps of a peer: receives cancelled, and their completions read
-use Rattle.std.specs.Prelude.{◌≡◌, ◌≢◌, ℕ, ◌+◌, ◌<◌, ◌≤◌, Bool, true, false, List, [], ◌∷◌, ◌++◌, zero, suc, take, drop, length, map, fold, Option, Some, None, Result, Ok, Err, slice_index, slice_get, ◌==◌, count_by, zip}
+use Rattle.std.specs.Prelude.{◌≡◌, ◌≢◌, ℕ, ◌+◌, ◌<◌, ◌≤◌, ◌⊎◌, Bool, true, false, List, [], ◌∷◌, ◌++◌, zero, suc, take, drop, length, map, fold, Option, Some, None, Result, Ok, Err, slice_index, slice_get, ◌==◌, count_by, zip}
 use Rattle.std.specs.List.{list_all}
 use Rattle.std.specs.Option.{option_map}
 use Rattle.fab_base.specs.declared.operations.Written.{Written}
@@ -34,7 +34,8 @@ use Rattle.fab_face.specs.declared.events.Event.TheVariants.{Call as Called, Hea
 use Rattle.fab_peer.specs.declared.peer.Peer.{Peer}
 use Rattle.fab_face.specs.Held.{Held, Seen, begun_of, next_item}
 use Rattle.fab_face.specs.Acts.{Act, Did, Took, Posted, Drew, Had, Goes, Ported, steps_of, taken_of, posted_to}
-use Rattle.fab_face.specs.Answers.{IsIdle, AllAre, Lends, LendsNone, after_read}
+use Rattle.fab_face.specs.declared.events.Moved.{Moved}
+use Rattle.fab_face.specs.Answers.{IsIdle, AllAre, Lends, LendsNone, Progressed, after_read}
 use Rattle.fab_link.specs.Meaning.{end_of}
 use Rattle.fab_link.specs.Frames.{IsLane}
 
@@ -202,6 +203,18 @@ Answered (Err fault) a b true =
 abbrev pub noted : {Home : Type 0} → LineResult → Told Home → Told Home
 noted result a = record a { results = a.results ++ result ∷ []; schedule = a.schedule ++ Do ∷ [] }
 
+abbrev pub is_line : Act → Bool
+is_line Did = true
+is_line _ = false
+
+abbrev pub line_if : Bool → ℕ
+line_if true = 1
+line_if false = 0
+
+-- the next line cannot be done, or a draw is due for which the log had no room
+abbrev pub Waits : {Home : Type 0} → Told Home → Type 0
+Waits b = (do_next (actor_of b) ≡ None) ⊎ (draw_due b.seen.held.state.rx ≡ true)
+
 -- some acts lead on; `moved` says whether there is one, and where a line was not done and nothing moved, it cannot be done
 pub record WentOn {Home : Type 0} (a b : Told Home) (done moved : Bool) : Type 0 where
   pub acts : List Act
@@ -212,6 +225,20 @@ pub record WentOn {Home : Type 0} (a b : Told Home) (done moved : Bool) : Type 0
   pub is_done : done ≡ true → moved ≡ true
   pub lines : b.lines ≡ a.lines
   pub counted : IsCounted (living_of a) → IsCounted (living_of b)
+  pub one : count_by is_line acts ≡ line_if done
+  pub waits : done ≡ false → Waits b
+
+-- lines were done, at most 16, and fewer only where the next one waits; what they did, and where they did nothing, that none can be done
+pub record Lined {Home : Type 0} (a b : Told Home) (moved : Bool) : Type 0 where
+  pub acts : List Act
+  pub lived : Lived a b acts
+  pub moved_is : moved ≡ is_some_act acts
+  pub held : moved ≡ false → do_next (actor_of b) ≡ None
+  pub log : b.seen.log ≡ []
+  pub lines : b.lines ≡ a.lines
+  pub counted : IsCounted (living_of a) → IsCounted (living_of b)
+  pub few : count_by is_line acts ≤ 16
+  pub whole : (count_by is_line acts ≡ 16) ⊎ Waits b
 
 -- ---- inside a turn
 
@@ -274,8 +301,12 @@ pub record ReadOn {Home : Type 0} (a b : Told Home) (any : Bool) : Type 0 where
 abbrev pub IsRead : {Home : Type 0} → Seen Home → Type 0
 IsRead e = e.held.state.cq.taken_out ≡ length e.held.state.cq.written
 
--- frames were moved and draws made, and nothing else was done
-pub record MovedOn {Home : Type 0} (a b : Told Home) (moved : Bool) : Type 0 where
+-- progress was made with up to 64 frames, and nothing else was done
+pub record MovedOn {Home : Type 0} (fixed : Bool) (a b : Told Home) (moved : Bool) : Type 0 where
+  pub near : Seen Home
+  pub answer : Moved
+  pub progressed : Progressed fixed 64 a.seen near (Ok answer)
+  pub is : b ≡ drained (with_seen a near)
   pub acts : List Act
   pub lived : Lived a b acts
   pub moved_is : moved ≡ is_some_act acts

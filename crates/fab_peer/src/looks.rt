@@ -1,5 +1,5 @@
 //! The lines that look at unexpected messages, and those on claimed ones (fi_tagged(3)).
-ghost use Rattle.std.specs.Prelude.{◌≡◌, [], true, OnOk, IfOk, IfErr, IfSome, Some};
+ghost use Rattle.std.specs.Prelude.{◌≡◌, [], true, OnOk, IfOk, IfErr, IfSome, Some, OnErr};
 ghost use Rattle.fab_base.specs.declared.script.LineOp.TheVariants.{Take, DropClaimed};
 ghost use Rattle.fab_model.specs.Calls.{Look};
 ghost use Rattle.fab_face.specs.Answers.{Receives, ReceivesNot};
@@ -31,6 +31,7 @@ fn look_by<E: Looks>(
 
 impl<E: LineCalls> Peer<E> {
     ghost use Rattle.fab_peer.specs.Kinds.{is_look};
+    ghost use Rattle.fab_peer.specs.Left.{Left};
     ghost use Rattle.fab_peer.specs.Turns.{told, next_op, WentOn};
 
     /// The line `peek`, `claim` or `discard`.
@@ -44,7 +45,8 @@ impl<E: LineCalls> Peer<E> {
     ) -> Result<Outcome, NoMemory>
         requires log { (E.seen self.old.endpoint).log ≡ [] }
         requires next { next_op (told E.seen self.old) ≡ Some (look_line how ctx source tag ignore) }
-        ensures { IfOk result (λ o. WentOn (told E.seen self.old) (told E.seen self.new) o.done o.moved) }
+        ensures on { IfOk result (λ o. WentOn (told E.seen self.old) (told E.seen self.new) o.done o.moved) }
+        ensures left { OnErr result (Left (told E.seen self.old) (told E.seen self.new)) }
     {
         self.endpoint.known();
         let answer = look_by(&mut self.endpoint, how, source, tag, ignore, ctx);
@@ -56,7 +58,8 @@ impl<E: LineCalls> Peer<E> {
     fn take(&mut self, ctx: u64, len: u32) -> Result<Outcome, NoMemory>
         requires log { (E.seen self.old.endpoint).log ≡ [] }
         requires next { next_op (told E.seen self.old) ≡ Some (Take ctx len) }
-        ensures { IfOk result (λ o. WentOn (told E.seen self.old) (told E.seen self.new) o.done o.moved) }
+        ensures on { IfOk result (λ o. WentOn (told E.seen self.old) (told E.seen self.new) o.done o.moved) }
+        ensures left { OnErr result (Left (told E.seen self.old) (told E.seen self.new)) }
     {
         let buf = self.spare.zeros(len as u64)?;
         self.endpoint.known();
@@ -70,7 +73,8 @@ impl<E: LineCalls> Peer<E> {
     fn drop_claimed(&mut self, ctx: u64) -> Result<Outcome, NoMemory>
         requires log { (E.seen self.old.endpoint).log ≡ [] }
         requires next { next_op (told E.seen self.old) ≡ Some (DropClaimed ctx) }
-        ensures { IfOk result (λ o. WentOn (told E.seen self.old) (told E.seen self.new) o.done o.moved) }
+        ensures on { IfOk result (λ o. WentOn (told E.seen self.old) (told E.seen self.new) o.done o.moved) }
+        ensures left { OnErr result (Left (told E.seen self.old) (told E.seen self.new)) }
     {
         self.endpoint.known();
         let answer = self.endpoint.drop_claimed(ctx);
@@ -82,7 +86,8 @@ impl<E: LineCalls> Peer<E> {
     pub(crate) fn do_look(&mut self) -> Result<Outcome, NoMemory>
         requires log { (E.seen self.old.endpoint).log ≡ [] }
         requires kind { IfSome (next_op (told E.seen self.old)) (λ op. is_look op ≡ true) }
-        ensures { IfOk result (λ o. WentOn (told E.seen self.old) (told E.seen self.new) o.done o.moved) }
+        ensures on { IfOk result (λ o. WentOn (told E.seen self.old) (told E.seen self.new) o.done o.moved) }
+        ensures left { OnErr result (Left (told E.seen self.old) (told E.seen self.new)) }
     {
         let Some(line) = self.lines.as_slice().get(self.results.len()) else {
             return Ok(Outcome {

@@ -1,5 +1,5 @@
 //! A peer over any endpoint: it does its lines, in turns.
-ghost use Rattle.std.specs.Prelude.{◌≡◌, ◌≢◌, ◌<◌, ◌||◌, ◌^◌, length, ℕ, Some, None, Ok, Err, IfOk, OnOk, OnErr, IfSome, IfNone, is_some, ◌+◌, [], true, false, Bool};
+ghost use Rattle.std.specs.Prelude.{◌≡◌, ◌≢◌, ◌<◌, ◌≤◌, ◌||◌, ◌^◌, length, ℕ, Some, None, Ok, Err, IfOk, OnOk, OnErr, IfSome, IfNone, is_some, ◌+◌, [], true, false, Bool};
 ghost use Rattle.fab_base.specs.declared.script.LineOp.TheVariants.{Wait, Recv, TRecv, MRecv, Send, TSend, Inject, TInject, Cancel};
 ghost use Rattle.fab_base.specs.declared.script.BytesWord.{BytesWord};
 ghost use Rattle.fab_base.specs.declared.faults.Fault.TheVariants.{NoMemory as LacksMemory};
@@ -91,8 +91,10 @@ impl<E: LineCalls> Peer<E> {
     ghost use Rattle.std.specs.Prelude.{List};
     ghost use Rattle.fab_peer.specs.Kinds.{is_send, is_inject, is_on_receives};
     ghost use Rattle.fab_face.specs.Acts.{Act};
-    ghost use Rattle.fab_peer.specs.Turns.{MovedOn, Gone, told, actor_of, living_of, drained, is_some_event, IsRead, IsCounted, WentOn, Answered, Lived, IsStill, is_some_act, next_op, noted, Turned, Ended, IsQuiet};
+    ghost use Rattle.fab_peer.specs.Turns.{MovedOn, Lined, Gone, told, actor_of, living_of, drained, is_some_event, IsRead, IsCounted, WentOn, Answered, Lived, IsStill, is_some_act, next_op, noted, Turned, Ended, IsQuiet};
     ghost use Rattle.fab_face.specs.Answers.{IsIdle};
+    ghost use Rattle.fab_peer.specs.Left.{Left, LeftBy, Unwritten};
+    ghost use Rattle.fab_peer.specs.Laps.{Lap, Laps, InLaps};
 
     /// A peer that is to do these lines over this endpoint. It takes no memory.
     pub fn new(alloc: Global, endpoint: E, lines: Vec<Line>) -> Peer<E>
@@ -147,6 +149,7 @@ impl<E: LineCalls> Peer<E> {
     pub(crate) fn drain(&mut self) -> Result<bool, NoMemory>
         ensures drained { OnOk result (told E.seen self.new ≡ drained (told E.seen self.old)) }
         ensures any { IfOk result (λ any. any ≡ is_some_event (E.seen self.old.endpoint).log) }
+        ensures left { OnErr result (Unwritten (told E.seen self.old) (told E.seen self.new)) }
     {
         let mut any = false;
         'events: while let Some(event) = self.endpoint.log_pop() {
@@ -158,7 +161,8 @@ impl<E: LineCalls> Peer<E> {
 
     /// A call was answered: its line is done, unless the answer is to come again.
     pub(crate) fn answered(&mut self, answer: Result<(), Fault>) -> Result<bool, NoMemory>
-        ensures { IfOk result (λ done. Answered answer (told E.seen self.old) (told E.seen self.new) done) }
+        ensures told { IfOk result (λ done. Answered answer (told E.seen self.old) (told E.seen self.new) done) }
+        ensures left { OnErr result (Unwritten (told E.seen self.old) (told E.seen self.new)) }
     {
         match answer {
             Ok(()) => {
@@ -179,6 +183,7 @@ impl<E: LineCalls> Peer<E> {
     pub(crate) fn transmitted(&mut self, answer: Result<(), Fault>) -> Result<Outcome, NoMemory>
         ensures answered { IfOk result (λ o. Answered answer (drained (told E.seen self.old)) (told E.seen self.new) o.done) }
         ensures moved { IfOk result (λ o. o.moved ≡ (o.done || (E.seen self.new.endpoint).pushed)) }
+        ensures left { OnErr result (Unwritten (told E.seen self.old) (told E.seen self.new)) }
     {
         self.drain()?;
         let done = self.answered(answer)?;
@@ -193,6 +198,7 @@ impl<E: LineCalls> Peer<E> {
     pub(crate) fn received(&mut self, answer: Result<(), Fault>) -> Result<Outcome, NoMemory>
         ensures answered { IfOk result (λ o. Answered answer (drained (told E.seen self.old)) (told E.seen self.new) o.done) }
         ensures moved { IfOk result (λ o. o.moved ≡ (o.done || is_some_event (E.seen self.old.endpoint).log)) }
+        ensures left { OnErr result (Unwritten (told E.seen self.old) (told E.seen self.new)) }
     {
         let drew = self.drain()?;
         let done = self.answered(answer)?;
@@ -206,6 +212,7 @@ impl<E: LineCalls> Peer<E> {
     pub(crate) fn noted(&mut self, what: LineResult) -> Result<Outcome, NoMemory>
         ensures told { OnOk result (told E.seen self.new ≡ noted what (told E.seen self.old)) }
         ensures done { IfOk result (λ o. (o.done ≡ true) × (o.moved ≡ true)) }
+        ensures left { OnErr result (Unwritten (told E.seen self.old) (told E.seen self.new)) }
     {
         self.schedule.push(Step::Do)?;
         self.results.push(what)?;
@@ -220,6 +227,7 @@ impl<E: LineCalls> Peer<E> {
         ensures told { OnOk result (told E.seen self.new ≡ noted (answer_of answer) (told E.seen self.old)) }
         ensures memory { OnOk result (answer ≢ Err LacksMemory) }
         ensures done { IfOk result (λ o. (o.done ≡ true) × (o.moved ≡ true)) }
+        ensures left { OnErr result (Unwritten (told E.seen self.old) (told E.seen self.new)) }
     {
         match answer {
             Ok(()) => self.noted(LineResult::Done),
@@ -232,7 +240,8 @@ impl<E: LineCalls> Peer<E> {
     fn wait(&mut self, ctx: Option<u64>) -> Result<Outcome, NoMemory>
         requires log { (E.seen self.old.endpoint).log ≡ [] }
         requires next { next_op (told E.seen self.old) ≡ Some (Wait ctx) }
-        ensures { IfOk result (λ o. WentOn (told E.seen self.old) (told E.seen self.new) o.done o.moved) }
+        ensures on { IfOk result (λ o. WentOn (told E.seen self.old) (told E.seen self.new) o.done o.moved) }
+        ensures left { OnErr result (Left (told E.seen self.old) (told E.seen self.new)) }
     {
         let Some(kept) = self.kept.take(ctx) else {
             return Ok(Outcome {
@@ -259,7 +268,8 @@ impl<E: LineCalls> Peer<E> {
     ) -> Result<Outcome, NoMemory>
         requires log { (E.seen self.old.endpoint).log ≡ [] }
         requires next { (word : BytesWord) × (next_op (told E.seen self.old) ≡ Some (Send ctx dest word imm flags.level flags.completion flags.fence)) × (buf ≡ word_bytes word) }
-        ensures { IfOk result (λ o. WentOn (told E.seen self.old) (told E.seen self.new) o.done o.moved) }
+        ensures on { IfOk result (λ o. WentOn (told E.seen self.old) (told E.seen self.new) o.done o.moved) }
+        ensures left { OnErr result (Left (told E.seen self.old) (told E.seen self.new)) }
     {
         self.endpoint.known();
         let answer = self.endpoint.send(dest, buf, imm, ctx, flags);
@@ -279,7 +289,8 @@ impl<E: LineCalls> Peer<E> {
     ) -> Result<Outcome, NoMemory>
         requires log { (E.seen self.old.endpoint).log ≡ [] }
         requires next { (word : BytesWord) × (next_op (told E.seen self.old) ≡ Some (TSend ctx dest tag word imm flags.level flags.completion flags.fence)) × (buf ≡ word_bytes word) }
-        ensures { IfOk result (λ o. WentOn (told E.seen self.old) (told E.seen self.new) o.done o.moved) }
+        ensures on { IfOk result (λ o. WentOn (told E.seen self.old) (told E.seen self.new) o.done o.moved) }
+        ensures left { OnErr result (Left (told E.seen self.old) (told E.seen self.new)) }
     {
         self.endpoint.known();
         let answer = self.endpoint.tsend(dest, tag, buf, imm, ctx, flags);
@@ -291,7 +302,8 @@ impl<E: LineCalls> Peer<E> {
     fn inject(&mut self, dest: u32, buf: &Buf, imm: Option<u64>) -> Result<Outcome, NoMemory>
         requires log { (E.seen self.old.endpoint).log ≡ [] }
         requires next { (word : BytesWord) × (next_op (told E.seen self.old) ≡ Some (Inject dest word imm)) × (buf.now ≡ word_bytes word) }
-        ensures { IfOk result (λ o. WentOn (told E.seen self.old) (told E.seen self.new) o.done o.moved) }
+        ensures on { IfOk result (λ o. WentOn (told E.seen self.old) (told E.seen self.new) o.done o.moved) }
+        ensures left { OnErr result (Left (told E.seen self.old) (told E.seen self.new)) }
     {
         self.endpoint.known();
         let why = self.endpoint.inject(dest, buf.as_slice(), imm);
@@ -308,7 +320,8 @@ impl<E: LineCalls> Peer<E> {
     ) -> Result<Outcome, NoMemory>
         requires log { (E.seen self.old.endpoint).log ≡ [] }
         requires next { (word : BytesWord) × (next_op (told E.seen self.old) ≡ Some (TInject dest tag word imm)) × (buf.now ≡ word_bytes word) }
-        ensures { IfOk result (λ o. WentOn (told E.seen self.old) (told E.seen self.new) o.done o.moved) }
+        ensures on { IfOk result (λ o. WentOn (told E.seen self.old) (told E.seen self.new) o.done o.moved) }
+        ensures left { OnErr result (Left (told E.seen self.old) (told E.seen self.new)) }
     {
         self.endpoint.known();
         let why = self.endpoint.tinject(dest, tag, buf.as_slice(), imm);
@@ -326,7 +339,8 @@ impl<E: LineCalls> Peer<E> {
     ) -> Result<Outcome, NoMemory>
         requires log { (E.seen self.old.endpoint).log ≡ [] }
         requires next { next_op (told E.seen self.old) ≡ Some (TRecv ctx source tag ignore len) }
-        ensures { IfOk result (λ o. WentOn (told E.seen self.old) (told E.seen self.new) o.done o.moved) }
+        ensures on { IfOk result (λ o. WentOn (told E.seen self.old) (told E.seen self.new) o.done o.moved) }
+        ensures left { OnErr result (Left (told E.seen self.old) (told E.seen self.new)) }
     {
         let buf = self.spare.zeros(len as u64)?;
         self.endpoint.known();
@@ -340,7 +354,8 @@ impl<E: LineCalls> Peer<E> {
     fn recv(&mut self, ctx: u64, source: Option<u32>, len: u32) -> Result<Outcome, NoMemory>
         requires log { (E.seen self.old.endpoint).log ≡ [] }
         requires next { next_op (told E.seen self.old) ≡ Some (Recv ctx source len) }
-        ensures { IfOk result (λ o. WentOn (told E.seen self.old) (told E.seen self.new) o.done o.moved) }
+        ensures on { IfOk result (λ o. WentOn (told E.seen self.old) (told E.seen self.new) o.done o.moved) }
+        ensures left { OnErr result (Left (told E.seen self.old) (told E.seen self.new)) }
     {
         let buf = self.spare.zeros(len as u64)?;
         self.endpoint.known();
@@ -361,7 +376,8 @@ impl<E: LineCalls> Peer<E> {
     ) -> Result<Outcome, NoMemory>
         requires log { (E.seen self.old.endpoint).log ≡ [] }
         requires next { next_op (told E.seen self.old) ≡ Some (MRecv ctx source len min) }
-        ensures { IfOk result (λ o. WentOn (told E.seen self.old) (told E.seen self.new) o.done o.moved) }
+        ensures on { IfOk result (λ o. WentOn (told E.seen self.old) (told E.seen self.new) o.done o.moved) }
+        ensures left { OnErr result (Left (told E.seen self.old) (told E.seen self.new)) }
     {
         let buf = self.spare.zeros(len as u64)?;
         let least = min.unwrap_or(64_u32.min(len));
@@ -376,7 +392,8 @@ impl<E: LineCalls> Peer<E> {
     fn cancel(&mut self, ctx: u64) -> Result<Outcome, NoMemory>
         requires log { (E.seen self.old.endpoint).log ≡ [] }
         requires next { next_op (told E.seen self.old) ≡ Some (Cancel ctx) }
-        ensures { IfOk result (λ o. WentOn (told E.seen self.old) (told E.seen self.new) o.done o.moved) }
+        ensures on { IfOk result (λ o. WentOn (told E.seen self.old) (told E.seen self.new) o.done o.moved) }
+        ensures left { OnErr result (Left (told E.seen self.old) (told E.seen self.new)) }
     {
         self.endpoint.known();
         let answer = self.endpoint.cancel(ctx);
@@ -388,7 +405,8 @@ impl<E: LineCalls> Peer<E> {
     fn do_send(&mut self) -> Result<Outcome, NoMemory>
         requires log { (E.seen self.old.endpoint).log ≡ [] }
         requires kind { IfSome (next_op (told E.seen self.old)) (λ op. is_send op ≡ true) }
-        ensures { IfOk result (λ o. WentOn (told E.seen self.old) (told E.seen self.new) o.done o.moved) }
+        ensures on { IfOk result (λ o. WentOn (told E.seen self.old) (told E.seen self.new) o.done o.moved) }
+        ensures left { OnErr result (Left (told E.seen self.old) (told E.seen self.new)) }
     {
         let Some(line) = self.lines.as_slice().get(self.results.len()) else {
             return Ok(Outcome {
@@ -440,7 +458,8 @@ impl<E: LineCalls> Peer<E> {
     fn do_inject(&mut self) -> Result<Outcome, NoMemory>
         requires log { (E.seen self.old.endpoint).log ≡ [] }
         requires kind { IfSome (next_op (told E.seen self.old)) (λ op. is_inject op ≡ true) }
-        ensures { IfOk result (λ o. WentOn (told E.seen self.old) (told E.seen self.new) o.done o.moved) }
+        ensures on { IfOk result (λ o. WentOn (told E.seen self.old) (told E.seen self.new) o.done o.moved) }
+        ensures left { OnErr result (Left (told E.seen self.old) (told E.seen self.new)) }
     {
         let Some(line) = self.lines.as_slice().get(self.results.len()) else {
             return Ok(Outcome {
@@ -474,7 +493,8 @@ impl<E: LineCalls> Peer<E> {
     fn do_receive(&mut self) -> Result<Outcome, NoMemory>
         requires log { (E.seen self.old.endpoint).log ≡ [] }
         requires kind { IfSome (next_op (told E.seen self.old)) (λ op. is_on_receives op ≡ true) }
-        ensures { IfOk result (λ o. WentOn (told E.seen self.old) (told E.seen self.new) o.done o.moved) }
+        ensures on { IfOk result (λ o. WentOn (told E.seen self.old) (told E.seen self.new) o.done o.moved) }
+        ensures left { OnErr result (Left (told E.seen self.old) (told E.seen self.new)) }
     {
         let Some(line) = self.lines.as_slice().get(self.results.len()) else {
             return Ok(Outcome {
@@ -505,7 +525,8 @@ impl<E: LineCalls> Peer<E> {
     /// Does the next line, if there is one and it can be done.
     fn do_line(&mut self) -> Result<Outcome, NoMemory>
         requires log { (E.seen self.old.endpoint).log ≡ [] }
-        ensures { IfOk result (λ o. WentOn (told E.seen self.old) (told E.seen self.new) o.done o.moved) }
+        ensures on { IfOk result (λ o. WentOn (told E.seen self.old) (told E.seen self.new) o.done o.moved) }
+        ensures left { OnErr result (Left (told E.seen self.old) (told E.seen self.new)) }
     {
         let Some(line) = self.lines.as_slice().get(self.results.len()) else {
             return Ok(Outcome {
@@ -537,7 +558,8 @@ impl<E: LineCalls> Peer<E> {
     fn do_lines(&mut self) -> Result<bool, NoMemory>
         requires log { (E.seen self.old.endpoint).log ≡ [] }
         requires counted { IsCounted (living_of (told E.seen self.old)) }
-        ensures { IfOk result (λ moved. WentOn (told E.seen self.old) (told E.seen self.new) false moved) }
+        ensures on { IfOk result (λ moved. Lined (told E.seen self.old) (told E.seen self.new) moved) }
+        ensures left { OnErr result (Left (told E.seen self.old) (told E.seen self.new)) }
     {
         let mut moved = false;
         for round in 0..16_u32 {
@@ -554,7 +576,8 @@ impl<E: LineCalls> Peer<E> {
     /// Takes and posts up to 64 frames. Whether anything moved.
     fn go_on(&mut self) -> Result<bool, NoMemory>
         requires log { (E.seen self.old.endpoint).log ≡ [] }
-        ensures { IfOk result (λ moved. MovedOn (told E.seen self.old) (told E.seen self.new) moved) }
+        ensures on { IfOk result (λ moved. MovedOn E.fixed (told E.seen self.old) (told E.seen self.new) moved) }
+        ensures left { OnErr result (Left (told E.seen self.old) (told E.seen self.new)) }
     {
         let moved = self.endpoint.progress(64)?;
         self.endpoint.known();
@@ -569,7 +592,8 @@ impl<E: LineCalls> Peer<E> {
         requires log { (E.seen self.old.endpoint).log ≡ [] }
         requires counted { IsCounted (living_of (told E.seen self.old)) }
         requires held { wanted ≡ false → do_next (actor_of (told E.seen self.old)) ≡ None }
-        ensures { IfOk result (λ moved. WentOn (told E.seen self.old) (told E.seen self.new) false moved) }
+        ensures on { IfOk result (λ moved. Lined (told E.seen self.old) (told E.seen self.new) moved) }
+        ensures left { OnErr result (Left (told E.seen self.old) (told E.seen self.new)) }
     {
         if wanted { self.do_lines() } else { Ok(false) }
     }
@@ -581,7 +605,9 @@ impl<E: LineCalls> Peer<E> {
         requires counted { IsCounted (living_of (told E.seen self.old)) }
         requires read { IsRead (E.seen self.old.endpoint) }
         requires held { wanted ≡ false → do_next (actor_of (told E.seen self.old)) ≡ None }
-        ensures { IfOk result (λ moved. Gone (told E.seen self.old) (told E.seen self.new) moved) }
+        ensures gone { IfOk result (λ moved. Gone (told E.seen self.old) (told E.seen self.new) moved) }
+        ensures lap { OnOk result (Lap E.fixed (told E.seen self.old) (told E.seen self.new)) }
+        ensures left { OnErr result (Left (told E.seen self.old) (told E.seen self.new)) }
     {
         let done = self.more_lines(wanted)?;
         let went = self.go_on()?;
@@ -595,7 +621,9 @@ impl<E: LineCalls> Peer<E> {
         requires log { (E.seen self.old.endpoint).log ≡ [] }
         requires counted { IsCounted (living_of (told E.seen self.old)) }
         requires read { IsRead (E.seen self.old.endpoint) }
-        ensures { IfOk result (λ moved. Gone (told E.seen self.old) (told E.seen self.new) moved) }
+        ensures gone { IfOk result (λ moved. Gone (told E.seen self.old) (told E.seen self.new) moved) }
+        ensures laps { OnOk result ((more : ℕ) × (more ≤ 1_024) × (looks ≡ 0 → more ≡ 0) × Laps E.fixed more (told E.seen self.old) (told E.seen self.new)) }
+        ensures left { OnErr result (Left (told E.seen self.old) (told E.seen self.new)) }
     {
         let first = self.lap(true)?;
         let mut moved = first;
@@ -620,6 +648,8 @@ impl<E: LineCalls> Peer<E> {
         ensures counted { OnOk result (IsCounted (living_of (told E.seen self.new))) }
         ensures turned { IfOk result (λ moved. (acts : List Act) × Turned (told E.seen self.old) (told E.seen self.new) acts × (moved ≡ is_some_act acts)) }
         ensures still { result ≡ Ok false → IsStill (told E.seen self.old) (told E.seen self.new) }
+        ensures laps { OnOk result (InLaps E.fixed looks (told E.seen self.old) (told E.seen self.new)) }
+        ensures left { OnErr result (Left (told E.seen self.old) (told E.seen self.new)) }
     {
         self.endpoint.known();
         let read = self.read_all()?;
@@ -634,7 +664,11 @@ impl<E: LineCalls> Peer<E> {
     /// With `looks` it goes on so, up to 1,024 times, until it found nothing to do so many times in a row; after some of
     /// these it lets other threads run in between. Without, it goes on no more.
     ///
-    /// Want of memory leaves the schedule as it was; of the rest of the peer nothing is known then.
+    /// Each lap, the first one and those that follow, has its share for both: it does lines while the next one can be done, 16
+    /// at most, and then moves frames while there are any to move, 64 at most. So neither keeps the other from going on.
+    ///
+    /// Want of memory leaves the schedule as it was. All that was done till then stays, by the endpoint and by the peer, but
+    /// that the result of the last line or the last completion read may not be kept.
     pub fn quantum(&mut self, looks: u32) -> Result<bool, NoMemory>
         requires log { (E.seen self.old.endpoint).log ≡ [] }
         requires counted { IsCounted (living_of (told E.seen self.old)) }
@@ -642,11 +676,15 @@ impl<E: LineCalls> Peer<E> {
         ensures counted { OnOk result (IsCounted (living_of (told E.seen self.new))) }
         ensures turned { IfOk result (λ moved. (acts : List Act) × Turned (told E.seen self.old) (told E.seen self.new) acts × (moved ≡ is_some_act acts)) }
         ensures still { result ≡ Ok false → IsStill (told E.seen self.old) (told E.seen self.new) }
+        ensures laps { OnOk result (InLaps E.fixed looks (told E.seen self.old) (told E.seen self.new)) }
         ensures stays { OnErr result ((told E.seen self.new).schedule ≡ (told E.seen self.old).schedule) }
+        ensures left { OnErr result (LeftBy (told E.seen self.old) (told E.seen self.new)) }
     {
+        self.endpoint.known();
         let before = replace(&mut self.schedule, Vec::new(self.alloc));
         let answer = self.turn(looks);
         let mut steps = replace(&mut self.schedule, before);
+        self.endpoint.known();
         let moved = answer?;
         self.schedule.append(&mut steps)?;
         Ok(moved)

@@ -1,5 +1,5 @@
 //! Reading completions (fi_cq(3)), and which bytes of a multi-receive are kept with one.
-ghost use Rattle.std.specs.Prelude.{◌≡◌, ◌≤◌, ℕ, ◌+◌, Ok, IfOk, OnOk, IfSome, IfNone, count_by, zip, true, false};
+ghost use Rattle.std.specs.Prelude.{◌≡◌, ◌≤◌, ℕ, ◌+◌, Ok, IfOk, OnOk, OnErr, IfSome, IfNone, count_by, zip, true, false};
 ghost use Rattle.fab_model.specs.Peers.{part_of, unread, is_multi_line};
 ghost use Rattle.fab_face.specs.Answers.{Pops, IsSharing};
 ghost use Rattle.fab_kept.specs.Places.{passes};
@@ -115,6 +115,7 @@ fn next_entry<E: LineCalls>(endpoint: &mut E) -> Option<Taken>
 }
 
 impl<E: LineCalls> Peer<E> {
+    ghost use Rattle.fab_peer.specs.Left.{Left};
     ghost use Rattle.fab_peer.specs.Turns.{told, living_of, is_only, Lent, HasRead, IsCounted, ReadOn, IsRead};
 
     /// Whether one multi-receive of the context, and no other, was not read to be released. The lines before that were
@@ -153,6 +154,7 @@ impl<E: LineCalls> Peer<E> {
         requires counted { IsCounted (living_of (told E.seen self.old)) }
         ensures one { result ≡ Ok true → HasRead (told E.seen self.old) (told E.seen self.new) }
         ensures none { result ≡ Ok false → (told E.seen self.new ≡ told E.seen self.old) × (unread (E.seen self.old.endpoint).held.state.cq ≡ None) }
+        ensures left { OnErr result (Left (told E.seen self.old) (told E.seen self.new)) }
     {
         let Some(entry) = next_entry(&mut self.endpoint) else {
             return Ok(false);
@@ -168,6 +170,7 @@ impl<E: LineCalls> Peer<E> {
         requires counted { IsCounted (living_of (told E.seen self.old)) }
         ensures on { IfOk result (λ any. ReadOn (told E.seen self.old) (told E.seen self.new) any) }
         ensures read { OnOk result (IsRead (E.seen self.new.endpoint)) }
+        ensures left { OnErr result (Left (told E.seen self.old) (told E.seen self.new)) }
     {
         let mut any = false;
         'entries: while self.read_one()? {

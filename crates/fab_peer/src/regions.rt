@@ -1,5 +1,5 @@
 //! The lines on a peer's own regions (fi_mr(3)).
-ghost use Rattle.std.specs.Prelude.{◌≡◌, [], true, IfOk, IfSome, Some};
+ghost use Rattle.std.specs.Prelude.{◌≡◌, [], true, IfOk, IfSome, Some, OnErr};
 ghost use Rattle.fab_base.specs.declared.script.BytesWord.{BytesWord};
 ghost use Rattle.fab_base.specs.declared.script.LineOp.TheVariants.{Reg, Close, Put, Show};
 ghost use Rattle.fab_model.specs.Calls.{word_bytes};
@@ -10,13 +10,15 @@ use fab_base::{Access, Buf, Fault, LineOp, LineResult, NoMemory};
 
 impl<E: LineCalls> Peer<E> {
     ghost use Rattle.fab_peer.specs.Kinds.{is_on_regions};
+    ghost use Rattle.fab_peer.specs.Left.{Left};
     ghost use Rattle.fab_peer.specs.Turns.{told, next_op, WentOn};
 
     /// The line `reg`.
     fn reg(&mut self, key: u64, access: Access, buf: Buf) -> Result<Outcome, NoMemory>
         requires log { (E.seen self.old.endpoint).log ≡ [] }
         requires next { (word : BytesWord) × (next_op (told E.seen self.old) ≡ Some (Reg key access word)) × (buf ≡ word_bytes word) }
-        ensures { IfOk result (λ o. WentOn (told E.seen self.old) (told E.seen self.new) o.done o.moved) }
+        ensures on { IfOk result (λ o. WentOn (told E.seen self.old) (told E.seen self.new) o.done o.moved) }
+        ensures left { OnErr result (Left (told E.seen self.old) (told E.seen self.new)) }
     {
         let answer = self.endpoint.reg(key, access, buf);
         self.settled(why_of(answer))
@@ -26,7 +28,8 @@ impl<E: LineCalls> Peer<E> {
     fn close(&mut self, key: u64) -> Result<Outcome, NoMemory>
         requires log { (E.seen self.old.endpoint).log ≡ [] }
         requires next { next_op (told E.seen self.old) ≡ Some (Close key) }
-        ensures { IfOk result (λ o. WentOn (told E.seen self.old) (told E.seen self.new) o.done o.moved) }
+        ensures on { IfOk result (λ o. WentOn (told E.seen self.old) (told E.seen self.new) o.done o.moved) }
+        ensures left { OnErr result (Left (told E.seen self.old) (told E.seen self.new)) }
     {
         match self.endpoint.close_region(key) {
             Ok(bytes) => self.noted(LineResult::Bytes(bytes)),
@@ -38,7 +41,8 @@ impl<E: LineCalls> Peer<E> {
     fn put(&mut self, key: u64, at: u64, buf: &Buf) -> Result<Outcome, NoMemory>
         requires log { (E.seen self.old.endpoint).log ≡ [] }
         requires next { (word : BytesWord) × (next_op (told E.seen self.old) ≡ Some (Put key at word)) × (buf.now ≡ word_bytes word) }
-        ensures { IfOk result (λ o. WentOn (told E.seen self.old) (told E.seen self.new) o.done o.moved) }
+        ensures on { IfOk result (λ o. WentOn (told E.seen self.old) (told E.seen self.new) o.done o.moved) }
+        ensures left { OnErr result (Left (told E.seen self.old) (told E.seen self.new)) }
     {
         let answer = self.endpoint.put(key, at, buf.as_slice());
         self.settled(answer)
@@ -48,7 +52,8 @@ impl<E: LineCalls> Peer<E> {
     fn show(&mut self, key: u64) -> Result<Outcome, NoMemory>
         requires log { (E.seen self.old.endpoint).log ≡ [] }
         requires next { next_op (told E.seen self.old) ≡ Some (Show key) }
-        ensures { IfOk result (λ o. WentOn (told E.seen self.old) (told E.seen self.new) o.done o.moved) }
+        ensures on { IfOk result (λ o. WentOn (told E.seen self.old) (told E.seen self.new) o.done o.moved) }
+        ensures left { OnErr result (Left (told E.seen self.old) (told E.seen self.new)) }
     {
         let Some(bytes) = self.endpoint.region_bytes(key) else {
             return self.noted(LineResult::Refused(Fault::NoKey));
@@ -61,7 +66,8 @@ impl<E: LineCalls> Peer<E> {
     pub(crate) fn do_region(&mut self) -> Result<Outcome, NoMemory>
         requires log { (E.seen self.old.endpoint).log ≡ [] }
         requires kind { IfSome (next_op (told E.seen self.old)) (λ op. is_on_regions op ≡ true) }
-        ensures { IfOk result (λ o. WentOn (told E.seen self.old) (told E.seen self.new) o.done o.moved) }
+        ensures on { IfOk result (λ o. WentOn (told E.seen self.old) (told E.seen self.new) o.done o.moved) }
+        ensures left { OnErr result (Left (told E.seen self.old) (told E.seen self.new)) }
     {
         let Some(line) = self.lines.as_slice().get(self.results.len()) else {
             return Ok(Outcome {

@@ -1,5 +1,5 @@
 //! The lines that ask another peer for something: reads, writes and atomics (fi_rma(3), fi_atomic(3)).
-ghost use Rattle.std.specs.Prelude.{◌≡◌, ℕ, [], true, length, replicate, IfOk, IfSome, Some};
+ghost use Rattle.std.specs.Prelude.{◌≡◌, ℕ, [], true, length, replicate, IfOk, IfSome, Some, OnErr};
 ghost use Rattle.fab_base.specs.declared.script.BytesWord.{BytesWord};
 ghost use Rattle.fab_base.specs.declared.script.LineOp.TheVariants.{Read, Write, WInject, Atomic, Fetch, Compare};
 ghost use Rattle.fab_model.specs.Calls.{fetched, word_bytes};
@@ -21,6 +21,7 @@ fn fetched(num: Num, values: &Buf, count: u32) -> u64
 
 impl<E: LineCalls> Peer<E> {
     ghost use Rattle.fab_peer.specs.Kinds.{is_transfer, is_atomic};
+    ghost use Rattle.fab_peer.specs.Left.{Left};
     ghost use Rattle.fab_peer.specs.Turns.{told, next_op, WentOn};
 
     /// The line `read`.
@@ -34,7 +35,8 @@ impl<E: LineCalls> Peer<E> {
     ) -> Result<Outcome, NoMemory>
         requires log { (E.seen self.old.endpoint).log ≡ [] }
         requires next { next_op (told E.seen self.old) ≡ Some (Read ctx dest key at len) }
-        ensures { IfOk result (λ o. WentOn (told E.seen self.old) (told E.seen self.new) o.done o.moved) }
+        ensures on { IfOk result (λ o. WentOn (told E.seen self.old) (told E.seen self.new) o.done o.moved) }
+        ensures left { OnErr result (Left (told E.seen self.old) (told E.seen self.new)) }
     {
         let buf = self.spare.zeros(len as u64)?;
         self.endpoint.known();
@@ -56,7 +58,8 @@ impl<E: LineCalls> Peer<E> {
     ) -> Result<Outcome, NoMemory>
         requires log { (E.seen self.old.endpoint).log ≡ [] }
         requires next { (word : BytesWord) × (next_op (told E.seen self.old) ≡ Some (Write ctx dest key at word imm flags.completion flags.fence)) × (buf ≡ word_bytes word) }
-        ensures { IfOk result (λ o. WentOn (told E.seen self.old) (told E.seen self.new) o.done o.moved) }
+        ensures on { IfOk result (λ o. WentOn (told E.seen self.old) (told E.seen self.new) o.done o.moved) }
+        ensures left { OnErr result (Left (told E.seen self.old) (told E.seen self.new)) }
     {
         self.endpoint.known();
         let answer = self.endpoint.write(dest, key, at, buf, imm, ctx, flags);
@@ -75,7 +78,8 @@ impl<E: LineCalls> Peer<E> {
     ) -> Result<Outcome, NoMemory>
         requires log { (E.seen self.old.endpoint).log ≡ [] }
         requires next { (word : BytesWord) × (next_op (told E.seen self.old) ≡ Some (WInject dest key at word imm)) × (buf.now ≡ word_bytes word) }
-        ensures { IfOk result (λ o. WentOn (told E.seen self.old) (told E.seen self.new) o.done o.moved) }
+        ensures on { IfOk result (λ o. WentOn (told E.seen self.old) (told E.seen self.new) o.done o.moved) }
+        ensures left { OnErr result (Left (told E.seen self.old) (told E.seen self.new)) }
     {
         self.endpoint.known();
         let why = self
@@ -98,7 +102,8 @@ impl<E: LineCalls> Peer<E> {
     ) -> Result<Outcome, NoMemory>
         requires log { (E.seen self.old.endpoint).log ≡ [] }
         requires next { next_op (told E.seen self.old) ≡ Some (Atomic ctx dest key at op num operand.now flags.completion flags.fence) }
-        ensures { IfOk result (λ o. WentOn (told E.seen self.old) (told E.seen self.new) o.done o.moved) }
+        ensures on { IfOk result (λ o. WentOn (told E.seen self.old) (told E.seen self.new) o.done o.moved) }
+        ensures left { OnErr result (Left (told E.seen self.old) (told E.seen self.new)) }
     {
         self.endpoint.known();
         let why = self
@@ -121,7 +126,8 @@ impl<E: LineCalls> Peer<E> {
     ) -> Result<Outcome, NoMemory>
         requires log { (E.seen self.old.endpoint).log ≡ [] }
         requires next { (count : ℕ) × (next_op (told E.seen self.old) ≡ Some (Fetch ctx dest key at op num operand.now count)) × (buf ≡ replicate (fetched num operand.now count) 0) }
-        ensures { IfOk result (λ o. WentOn (told E.seen self.old) (told E.seen self.new) o.done o.moved) }
+        ensures on { IfOk result (λ o. WentOn (told E.seen self.old) (told E.seen self.new) o.done o.moved) }
+        ensures left { OnErr result (Left (told E.seen self.old) (told E.seen self.new)) }
     {
         self.endpoint.known();
         let answer = self
@@ -147,7 +153,8 @@ impl<E: LineCalls> Peer<E> {
         requires log { (E.seen self.old.endpoint).log ≡ [] }
         requires next { next_op (told E.seen self.old) ≡ Some (Compare ctx dest key at op num operand.now compares.now) }
         requires buf { buf ≡ replicate (length operand.now) 0 }
-        ensures { IfOk result (λ o. WentOn (told E.seen self.old) (told E.seen self.new) o.done o.moved) }
+        ensures on { IfOk result (λ o. WentOn (told E.seen self.old) (told E.seen self.new) o.done o.moved) }
+        ensures left { OnErr result (Left (told E.seen self.old) (told E.seen self.new)) }
     {
         self.endpoint.known();
         let answer = self.endpoint.compare_atomic(
@@ -169,7 +176,8 @@ impl<E: LineCalls> Peer<E> {
     pub(crate) fn do_remote(&mut self) -> Result<Outcome, NoMemory>
         requires log { (E.seen self.old.endpoint).log ≡ [] }
         requires kind { IfSome (next_op (told E.seen self.old)) (λ op. is_transfer op ≡ true) }
-        ensures { IfOk result (λ o. WentOn (told E.seen self.old) (told E.seen self.new) o.done o.moved) }
+        ensures on { IfOk result (λ o. WentOn (told E.seen self.old) (told E.seen self.new) o.done o.moved) }
+        ensures left { OnErr result (Left (told E.seen self.old) (told E.seen self.new)) }
     {
         let Some(line) = self.lines.as_slice().get(self.results.len()) else {
             return Ok(Outcome {
@@ -221,7 +229,8 @@ impl<E: LineCalls> Peer<E> {
     pub(crate) fn do_atomic(&mut self) -> Result<Outcome, NoMemory>
         requires log { (E.seen self.old.endpoint).log ≡ [] }
         requires kind { IfSome (next_op (told E.seen self.old)) (λ op. is_atomic op ≡ true) }
-        ensures { IfOk result (λ o. WentOn (told E.seen self.old) (told E.seen self.new) o.done o.moved) }
+        ensures on { IfOk result (λ o. WentOn (told E.seen self.old) (told E.seen self.new) o.done o.moved) }
+        ensures left { OnErr result (Left (told E.seen self.old) (told E.seen self.new)) }
     {
         let Some(line) = self.lines.as_slice().get(self.results.len()) else {
             return Ok(Outcome {

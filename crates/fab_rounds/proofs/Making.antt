@@ -8,8 +8,9 @@ use Rattle.fab_model.specs.Peers.{is_finished}
 use Rattle.fab_model.specs.Views.{IsPrefixOf}
 use Rattle.fab_model.proofs.Views.{prefix_self, prefix_prefix}
 use Rattle.fab_face.specs.Acts.{steps_of}
-use Rattle.fab_peer.specs.Turns.{IsStill, actor_of}
-use Rattle.fab_rounds.specs.Rounds.{Each, TurnedFor, Between, Rounded, GoesOn, MadeFor, AtOnePort, size}
+use Rattle.fab_peer.specs.Left.{LeftBy}
+use Rattle.fab_peer.specs.Turns.{Told, IsStill, actor_of}
+use Rattle.fab_rounds.specs.Rounds.{Each, TurnedFor, Between, Rounded, LackedIn, GoesOn, MadeFor, AtOnePort, size}
 use Rattle.fab_rounds.specs.Staying.{RanFor, Risen}
 use Rattle.fab_rounds.proofs.Lists.{sums_rise, none_at, all_at}
 use Rattle.fab_rounds.proofs.Turning.{turned_more, still_later}
@@ -171,6 +172,38 @@ module _ {Home : Type 0} where
       let first = made_turns n old mid before k d below (round.turned well).0 in
       still_later n (slice_index_or old k d).peer (slice_index_or mid k d).peer (slice_index_or new k d).peer first.1 (round.still well none)
 
+  -- ---- where memory ran out
+
+  -- before the last round it ran out in no turn, unless there is no round before it
+  lacked_last : (n : ℕ) (a b c : Between Home) → TurnedSo n a b → (0 < n → b.failed ≡ false) → (n ≡ 0 → b ≡ a) → Rounded b c → LackedIn (suc n) a c
+  lacked_last n a b c before well first round = record {
+    turned = λ some. (let turn = round.turned some in turned_more n a.peer b.peer c.peer c.moved (before turn.0).1 turn.1);
+    left = λ was some. by_first n refl was some;
+    spoiled = λ was. by_spoiled n refl was;
+  }
+    where
+      by_first : (m : ℕ) → n ≡ m → a.failed ≡ false → c.failed ≡ true → (k : ℕ) × (k + 1 ≡ suc n) × ((mid : Told Home) × TurnedFor k a.peer mid × LeftBy mid c.peer)
+      by_first zero is was some =
+          let same = first is in
+          let here : b.failed ≡ false = ap (λ (x : Between Home). x.failed) same ∙ was in
+          (n, omega arith, (b.peer, (before here).1, round.left here some))
+      by_first (suc m) is was some = let here = well (omega (arith, is)) in (n, omega arith, (b.peer, (before here).1, round.left here some))
+
+      by_spoiled : (m : ℕ) → n ≡ m → a.failed ≡ true → (suc n ≡ 1) × (c ≡ a)
+      by_spoiled zero is was = let same = first is in (ap suc is, round.spoiled (ap (λ (x : Between Home). x.failed) same ∙ was) ∙ same)
+      by_spoiled (suc m) is was = let nay : true ≡ false = sym was ∙ (before (well (omega (arith, is)))).0 in absurd (cc nay)
+
+  made_none : (n : ℕ) (old new : List (Between Home)) → n ≡ 0 → MadeFor n old new → old ≡ new
+  made_none zero old new none same = same
+  made_none (suc n) old new none made = absurd (omega (arith, none))
+
+  made_lacked : (n : ℕ) (old new : List (Between Home)) → 0 < n → MadeFor n old new → Each (LackedIn n) old new
+  made_lacked zero old new some same k d below = absurd (omega (arith, some))
+  made_lacked (suc n) old new some (mid, before, goes, long, each) k d below =
+      let within : k < length mid = omega (arith, below, made_long n old mid before) in
+      lacked_last n (slice_index_or old k d) (slice_index_or mid k d) (slice_index_or new k d) (made_turns n old mid before k d below)
+      (λ more. none_at (λ p. p.failed) mid k d within (let g = goes more in g.well)) (λ none. ap (λ xs. slice_index_or xs k d) (sym (made_none n old mid none before))) (each k d within)
+
 -- ---- the same of the peers that are told
 
 module _ {X Home : Type 0} (f : X → Between Home) (n : ℕ) (old new : List X) (long : length new ≡ length old) (made : MadeFor n (map f old) (map f new)) where
@@ -182,6 +215,9 @@ module _ {X Home : Type 0} (f : X → Between Home) (n : ℕ) (old new : List X)
 
   pub turns_made : (0 < n → list_any (λ p. (f p).failed) new ≡ false) → Each (λ a b. ((f b).failed ≡ false → (f a).failed ≡ false) × TurnedFor n (f a).peer (f b).peer) old new
   turns_made well = told_each f (λ a b. (b.failed ≡ false → a.failed ≡ false) × TurnedFor n a.peer b.peer) old new long (all_turns n (map f old) (map f new) (λ some. any_told f (λ p. p.failed) new ∙ well some) made)
+
+  pub lacked_made : 0 < n → Each (λ a b. LackedIn n (f a) (f b)) old new
+  lacked_made some = told_each f (LackedIn n) old new long (made_lacked n (map f old) (map f new) some made)
 
   pub still_made : 0 < n → list_any (λ p. (f p).failed) new ≡ false → list_all (λ p. not (f p).moved) new ≡ true → Each (λ a b. IsStill (f a).peer (f b).peer) old new
   still_made some well none k d below =

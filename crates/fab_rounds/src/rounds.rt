@@ -9,7 +9,7 @@ ghost use Rattle.fab_peer.specs.Turns.{told, actor_of, actor_in, IsStill, Living
 ghost use Rattle.fab_merging.specs.Pasts.{past_of};
 ghost use Rattle.fab_merging.specs.Law.{schedules, actors, AreTogether};
 ghost use Rattle.fab_rounds.specs.Opened.{Begins, AreGathered};
-ghost use Rattle.fab_rounds.specs.Rounds.{Each, Rounded, TurnedFor, MadeFor, AtOnePort, between, size};
+ghost use Rattle.fab_rounds.specs.Rounds.{Each, Rounded, LackedIn, TurnedFor, MadeFor, AtOnePort, between, size};
 ghost use Rattle.fab_rounds.specs.Staying.{RanFor, Risen};
 
 use crate::runner::Runner;
@@ -143,7 +143,8 @@ fn all_finished<P: Port, C: Machinery>(peers: &[Runner<P, C>]) -> bool
 ///
 /// It ends after the first round of which one of these is so. Where memory ran out in a turn, the round goes on for the
 /// other peers, and then the call ends; the schedule of each peer begins with the one before, and that of the peer that
-/// lacked memory is what it was before the round.
+/// lacked memory is what it was before the round. What its turn did till then stays, by its endpoint and by itself, but that
+/// the result of its last line or the last completion read may not be kept.
 ///
 /// Once the ports are gathered, so that their moves merge, some order of turns led from the opening to the peers as they
 /// are, and they can go on in one thread.
@@ -159,6 +160,7 @@ pub fn run_rounds<P: Port + Send, C: Machinery + Drop + Send, G: Gate, R: Thread
     ensures turned { IfOk result (λ r. Each (λ a b. (b.failed ≡ false → a.failed ≡ false) × TurnedFor r.made (told (seen P.Port) a.peer) (told (seen P.Port) b.peer)) peers.old peers.new) }
     ensures rounds { IfOk result (λ r. MadeFor r.made (map (λ p. between (told (seen P.Port) p.peer) p.moved p.failed) peers.old) (map (λ p. between (told (seen P.Port) p.peer) p.moved p.failed) peers.new)) }
     ensures lacked { OnErr result ((n : ℕ) × (0 < n) × (n ≤ limit) × MadeFor n (map (λ p. between (told (seen P.Port) p.peer) p.moved p.failed) peers.old) (map (λ p. between (told (seen P.Port) p.peer) p.moved p.failed) peers.new)) }
+    ensures left { OnErr result ((n : ℕ) × (0 < n) × (n ≤ limit) × Each (λ a b. LackedIn n (between (told (seen P.Port) a.peer) a.moved a.failed) (between (told (seen P.Port) b.peer) b.moved b.failed)) peers.old peers.new) }
     ensures grows { Each (λ a b. IsPrefixOf (told (seen P.Port) a.peer).schedule (told (seen P.Port) b.peer).schedule) peers.old peers.new }
     ensures ports { Each (λ a b. b.failed ≡ false → AtOnePort (told (seen P.Port) a.peer) (told (seen P.Port) b.peer)) peers.old peers.new }
     ensures reached { OnOk result ((opening : List Living) → Begins opening (map (λ p. past_of (told (seen P.Port) p.peer)) peers.old) → AreGathered (map (λ p. past_of (told (seen P.Port) p.peer)) peers.new)

@@ -2,6 +2,8 @@
 ghost use Rattle.std.specs.Prelude.{◌≡◌, ◌<◌, ◌≤◌, ◌+◌, ◌^◌, ℕ, [], ◌∷◌, ◌++◌, true, false, length, Some, IfOk, OnErr};
 ghost use Rattle.fab_ep.specs.Value.{seen};
 ghost use Rattle.fab_model.specs.Peers.{is_finished};
+ghost use Rattle.fab_peer.specs.Laps.{InLaps};
+ghost use Rattle.fab_peer.specs.Left.{LeftBy};
 ghost use Rattle.fab_peer.specs.Turns.{told, living_of, actor_of, IsCounted, IsStill};
 ghost use Rattle.fab_meeting.specs.Accounts.{answer_at};
 ghost use Rattle.fab_rounds.specs.Rounds.{TurnedAs, between, size};
@@ -92,8 +94,8 @@ impl<P: Port, C: Machinery> Runner<P, C> {
     }
 
     /// One turn, with so many looks as `Peer::quantum` has. Its answer is kept: whether it moved anything, or that memory ran
-    /// out. Want of memory leaves the schedule as it was; from then on nothing is known of the rest of the peer but that it
-    /// stays as it is.
+    /// out. Want of memory leaves the schedule as it was, and of the rest what `Peer::quantum` says; from then on the peer stays as
+    /// it is.
     pub fn quantum(&mut self, looks: u32) -> Result<bool, NoMemory>
         ensures turned { self.new.failed ≡ false → (self.old.failed ≡ false) × TurnedAs (told (seen P.Port) self.old.peer) (told (seen P.Port) self.new.peer) self.new.moved }
         ensures still { self.new.failed ≡ false → self.new.moved ≡ false → IsStill (told (seen P.Port) self.old.peer) (told (seen P.Port) self.new.peer) }
@@ -102,6 +104,8 @@ impl<P: Port, C: Machinery> Runner<P, C> {
         ensures ok { IfOk result (λ moved. (self.new.moved ≡ moved) × (self.new.failed ≡ false)) }
         ensures err { OnErr result ((self.new.moved ≡ false) × (self.new.failed ≡ true)) }
         ensures stays { self.new.failed ≡ true → (self.new.moved ≡ false) × ((told (seen P.Port) self.new.peer).schedule ≡ (told (seen P.Port) self.old.peer).schedule) }
+        ensures left { self.old.failed ≡ false → self.new.failed ≡ true → LeftBy (told (seen P.Port) self.old.peer) (told (seen P.Port) self.new.peer) }
+        ensures laps { self.new.failed ≡ false → InLaps P.FIXED looks (told (seen P.Port) self.old.peer) (told (seen P.Port) self.new.peer) }
         ensures failed { self.old.failed ≡ true → self.new ≡ self.old }
         ensures seat { self.new.seat ≡ self.old.seat }
     {

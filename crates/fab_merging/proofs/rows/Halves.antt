@@ -33,7 +33,8 @@ use Rattle.fab_merging.specs.Pasts.{Past, begun, ActedBy, Acted}
 use Rattle.fab_merging.specs.Law.{AreTold, IsFresh, ins_at, outs_at}
 use Rattle.fab_merging.proofs.Opening.{start_fresh}
 use Rattle.fab_merging.proofs.Reaching.{threads_reach}
-use Rattle.fab_merging.proofs.rows.Hello.{resting, no_items}
+use Rattle.fab_merging.proofs.rows.Hello.{resting}
+use Rattle.fab_merging.proofs.Lists.{no_items}
 
 abbrev script : Bound
 script = script_of ((line 4 (LineOp.TRecv 1 None 7 0 8192) ∷ []) ∷ (line 6 (LineOp.TSend 2 0 7 (Zero 5000) None Level.Transmit false false) ∷ []) ∷ [])

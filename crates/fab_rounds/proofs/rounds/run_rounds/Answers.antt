@@ -2,7 +2,7 @@ use Rattle.std.proofs.Common.{arith, ◌+◌, sym, ◌∙◌}
 use Rattle.fab_ep.specs.Value.{seen}
 use Rattle.fab_peer.specs.Turns.{told}
 use Rattle.fab_rounds.specs.Rounds.{between}
-use Rattle.fab_rounds.proofs.Making.{made_on, grew_told, schedules_grow, ports_stay, turns_made, still_made}
+use Rattle.fab_rounds.proofs.Making.{made_on, grew_told, schedules_grow, ports_stay, turns_made, lacked_made, still_made}
 use Rattle.fab_merging.specs.Pasts.{past_of}
 use Rattle.fab_rounds.proofs.Acting.{acted_turned, reached_by}
 use Rattle.fab_rounds.proofs.rounds.run_rounds.Goals as goal
@@ -25,6 +25,17 @@ rounds-preserved g c =
 
 pub returns-then-any_failed-clause-lacked : goal.returns-then-any_failed-clause-lacked
 returns-then-any_failed-clause-lacked g c = (c.rounds.made + c.more_rounds-made.result, (let w = c.more_rounds-made.ensures.within in omega (arith, w.0)), c.more_rounds-made.ensures.within.1, (let i = c.rounds.invariant in made_on (λ p. between (told (seen g.P.Port) p.peer) p.moved p.failed) c.rounds.made c.more_rounds-made.result c.args.peers.now c.rounds.peers c.more_rounds-made.new.peers i.rounds i.failing i.moving i.going c.more_rounds-made.ensures.ran.made))
+
+pub returns-then-any_failed-clause-left : goal.returns-then-any_failed-clause-left
+returns-then-any_failed-clause-left g c =
+    let n = c.rounds.made + c.more_rounds-made.result in
+    let some = (let w = c.more_rounds-made.ensures.within in omega (arith, w.0)) in
+    let made = (let i = c.rounds.invariant in made_on (λ p. between (told (seen g.P.Port) p.peer) p.moved p.failed) c.rounds.made c.more_rounds-made.result c.args.peers.now c.rounds.peers c.more_rounds-made.new.peers i.rounds i.failing i.moving i.going c.more_rounds-made.ensures.ran.made) in (
+      n,
+      some,
+      c.more_rounds-made.ensures.within.1,
+      lacked_made (λ p. between (told (seen g.P.Port) p.peer) p.moved p.failed) n c.args.peers.now c.more_rounds-made.new.peers (c.more_rounds-made.ensures.count ∙ c.rounds.invariant.count) made some,
+    )
 
 pub returns-then-any_failed-clause-grows : goal.returns-then-any_failed-clause-grows
 returns-then-any_failed-clause-grows g c = schedules_grow (λ p. between (told (seen g.P.Port) p.peer) p.moved p.failed) (c.rounds.made + c.more_rounds-made.result) c.args.peers.now c.more_rounds-made.new.peers (c.more_rounds-made.ensures.count ∙ c.rounds.invariant.count) (let i = c.rounds.invariant in made_on (λ p. between (told (seen g.P.Port) p.peer) p.moved p.failed) c.rounds.made c.more_rounds-made.result c.args.peers.now c.rounds.peers c.more_rounds-made.new.peers i.rounds i.failing i.moving i.going c.more_rounds-made.ensures.ran.made)

@@ -34,7 +34,7 @@ loop-going-preserved g c =
     let d = between (told (seen g.P.Port) c.quantum-kept.new.self.peer) c.quantum-kept.new.self.moved c.quantum-kept.new.self.failed in
     let life = subst (λ (z : Account). IsLife a b z) (sym sat) i.life in
     let more = life_more a b d here after (told_by d) life (λ n end. ap (λ (z : Account). goes (answer_at z n)) sat ∙ i.now n (sym long ∙ end) ∙ goes_on)
-    (record { turned = turn.turned; still = turn.still; stays = turn.stays }) (record { grown = turn.grown; risen = turn.risen }) refl c.meet.ensures.said c.meet.ensures.kept in
+    (record { turned = turn.turned; still = turn.still; stays = turn.stays; left = turn.left; spoiled = λ was. ap (λ r. between (told (seen g.P.Port) r.peer) r.moved r.failed) (turn.failed was) }) (record { grown = turn.grown; risen = turn.risen }) refl c.meet.ensures.said c.meet.ensures.kept in
     record {
       within = omega (arith, c.if-made-limit.true);
       seated = c.meet.ensures.seated;

@@ -5,10 +5,11 @@ use Rattle.std.proofs.lemmas.Option.{slice_get_past}
 use Rattle.fab_base.specs.declared.script.LineOp.TheVariants.{Atomic, Fetch, Compare}
 use Rattle.fab_peer.specs.Turns.{told}
 use Rattle.fab_peer.proofs.Calling.{next_by, finished_on}
+use Rattle.fab_peer.proofs.Leaving.{same_left}
 use Rattle.fab_peer.proofs.peer.Peer.do_atomic.Goals as goal
 
-pub returns-in_default : goal.returns-in_default
-returns-in_default g c =
+pub returns-in_default-clause-on : goal.returns-in_default-clause-on
+returns-in_default-clause-on g c =
     let count : c.len.result ≡ length c.args.self.now.results.items = search rules in
     let past : length c.as_slice.result.now ≤ c.len.result = ltb-false _ _ (sym c.in_default.ensures.lookup.0) in
     let none = slice_get_past c.as_slice.result.now c.len.result past in
@@ -46,3 +47,21 @@ compare-requires-clause-next g c =
     next_by (told g.E.Sees.seen c.args.self.now) c.as_slice.result.now c.len.result c.in-Some.line.now _ c.as_slice.ensures count (ltb-true _ _ (sym found.0)) found.1 l.is
     ∙ ap (λ vs. Some (Compare l.ctx l.dest l.key l.at l.op l.num vs l.compares)) operand
     ∙ ap (λ cs. Some (Compare l.ctx l.dest l.key l.at l.op l.num c.in_ok-operand-in-Compare.operand cs)) other
+
+pub returns-in_err-operand-in-Atomic-clause-left : goal.returns-in_err-operand-in-Atomic-clause-left
+returns-in_err-operand-in-Atomic-clause-left g c = same_left _ _
+
+pub returns-in_err-operand-in-Fetch-clause-left : goal.returns-in_err-operand-in-Fetch-clause-left
+returns-in_err-operand-in-Fetch-clause-left g c = same_left _ _
+
+pub returns-in_err-buf-in-Fetch-clause-left : goal.returns-in_err-buf-in-Fetch-clause-left
+returns-in_err-buf-in-Fetch-clause-left g c = same_left _ _
+
+pub returns-in_err-operand-in-Compare-clause-left : goal.returns-in_err-operand-in-Compare-clause-left
+returns-in_err-operand-in-Compare-clause-left g c = same_left _ _
+
+pub returns-in_err-other-in-Compare-clause-left : goal.returns-in_err-other-in-Compare-clause-left
+returns-in_err-other-in-Compare-clause-left g c = same_left _ _
+
+pub returns-in_err-buf-in-Compare-clause-left : goal.returns-in_err-buf-in-Compare-clause-left
+returns-in_err-buf-in-Compare-clause-left g c = same_left _ _

@@ -6,8 +6,8 @@ use Rattle.fab_peer.specs.Turns.{told}
 use Rattle.fab_peer.proofs.Calling.{next_by, finished_on}
 use Rattle.fab_peer.proofs.peer.Peer.do_receive.Goals as goal
 
-pub returns-in_default : goal.returns-in_default
-returns-in_default g c =
+pub returns-in_default-clause-on : goal.returns-in_default-clause-on
+returns-in_default-clause-on g c =
     let count : c.len.result ≡ length c.args.self.now.results.items = search rules in
     let past : length c.as_slice.result.now ≤ c.len.result = ltb-false _ _ (sym c.in_default.ensures.lookup.0) in
     let none = slice_get_past c.as_slice.result.now c.len.result past in

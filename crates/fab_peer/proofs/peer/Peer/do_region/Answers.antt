@@ -4,10 +4,11 @@ use Rattle.std.proofs.lemmas.Bool.{ltb-true, ltb-false}
 use Rattle.std.proofs.lemmas.Option.{slice_get_past}
 use Rattle.fab_peer.specs.Turns.{told}
 use Rattle.fab_peer.proofs.Calling.{next_by, finished_on}
+use Rattle.fab_peer.proofs.Leaving.{same_left}
 use Rattle.fab_peer.proofs.peer.Peer.do_region.Goals as goal
 
-pub returns-in_default : goal.returns-in_default
-returns-in_default g c =
+pub returns-in_default-clause-on : goal.returns-in_default-clause-on
+returns-in_default-clause-on g c =
     let count : c.len.result ≡ length c.args.self.now.results.items = search rules in
     let past : length c.as_slice.result.now ≤ c.len.result = ltb-false _ _ (sym c.in_default.ensures.lookup.0) in
     let none = slice_get_past c.as_slice.result.now c.len.result past in
@@ -43,3 +44,9 @@ show-requires-clause-next g c =
     let found = c.in-Some.ensures.lookup in
     let count : c.len.result ≡ length c.args.self.now.results.items = search rules in
     next_by (told g.E.Sees.seen c.args.self.now) c.as_slice.result.now c.len.result c.in-Some.line.now _ c.as_slice.ensures count (ltb-true _ _ (sym found.0)) found.1 c.in-Show.is
+
+pub returns-in_err-buf-in-Reg-clause-left : goal.returns-in_err-buf-in-Reg-clause-left
+returns-in_err-buf-in-Reg-clause-left g c = same_left _ _
+
+pub returns-in_err-buf-in-Put-clause-left : goal.returns-in_err-buf-in-Put-clause-left
+returns-in_err-buf-in-Put-clause-left g c = same_left _ _

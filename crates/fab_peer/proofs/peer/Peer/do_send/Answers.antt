@@ -5,10 +5,11 @@ use Rattle.std.proofs.lemmas.Option.{slice_get_past}
 use Rattle.fab_peer.specs.Turns.{told}
 use Rattle.fab_peer.proofs.Calling.{next_by, finished_on}
 use Rattle.fab_peer.proofs.Filling.{next_sent, next_still}
+use Rattle.fab_peer.proofs.Leaving.{on_err, left_lines}
 use Rattle.fab_peer.proofs.peer.Peer.do_send.Goals as goal
 
-pub returns-in_default : goal.returns-in_default
-returns-in_default g c =
+pub returns-in_default-clause-on : goal.returns-in_default-clause-on
+returns-in_default-clause-on g c =
     let count : c.len.result ≡ length c.args.self.now.results.items = search rules in
     let past : length c.as_slice.result.now ≤ c.len.result = ltb-false _ _ (sym c.in_default.ensures.lookup.0) in
     let none = slice_get_past c.as_slice.result.now c.len.result past in
@@ -36,3 +37,9 @@ tsend-requires-clause-next g c =
       next_still a c.buffer-in-TSend.new.self _ c.buffer-in-TSend.ensures.same next,
       next_sent a c.len-in-TSend.result _ c.in_ok-buf-in-TSend.buf c.in_ok-buf-in-TSend.ensures.sent (search rules) next,
     )
+
+pub returns-in_err-buf-in-Send-clause-left : goal.returns-in_err-buf-in-Send-clause-left
+returns-in_err-buf-in-Send-clause-left g c = on_err _ _ (left_lines (told g.E.Sees.seen c.args.self.now) c.buffer.new.self c.buffer.ensures.same)
+
+pub returns-in_err-buf-in-TSend-clause-left : goal.returns-in_err-buf-in-TSend-clause-left
+returns-in_err-buf-in-TSend-clause-left g c = on_err _ _ (left_lines (told g.E.Sees.seen c.args.self.now) c.buffer-in-TSend.new.self c.buffer-in-TSend.ensures.same)

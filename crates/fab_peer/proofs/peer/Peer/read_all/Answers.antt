@@ -3,6 +3,7 @@ use Rattle.fab_model.specs.Peers.{unread}
 use Rattle.fab_peer.specs.Turns.{Told, ReadOn, told}
 use Rattle.fab_face.proofs.Holding.{none_unread}
 use Rattle.fab_peer.proofs.Calling.{reads_on, reads_none, reads_less}
+use Rattle.fab_peer.proofs.Leaving.{on_err, left_behind}
 use Rattle.fab_peer.proofs.peer.Peer.read_all.Goals as goal
 
 pub entries-init : goal.entries-init
@@ -31,3 +32,10 @@ returns-clause-read g c =
     let seen = g.E.Sees.seen in
     let last = c.in_ok-read_one.ensures.none (ap Ok c.if-branch.false) in
     none_unread (seen c.read_one.new.self.endpoint) c.known.ensures (subst (λ (x : Told g.E.Sees.Home). unread x.seen.held.state.cq ≡ None) (sym last.0) last.1)
+
+pub returns-in_err-read_one-clause-left : goal.returns-in_err-read_one-clause-left
+returns-in_err-read_one-clause-left g c =
+    let seen = g.E.Sees.seen in
+    let a = told seen c.args.self.now in
+    let inv = c.entries.invariant in
+    on_err _ _ (left_behind a (told seen c.entries.self) (told seen c.read_one.new.self) inv.acts inv.lived inv.lines c.in_err-read_one.ensures.left)

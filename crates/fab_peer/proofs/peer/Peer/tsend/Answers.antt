@@ -3,10 +3,11 @@ use Rattle.fab_base.specs.declared.items.Kind.TheVariants.{TagMsg}
 use Rattle.fab_model.specs.Calls.{message}
 use Rattle.fab_peer.specs.Turns.{told}
 use Rattle.fab_peer.proofs.Calling.{sends_line, calls_tsend}
+use Rattle.fab_peer.proofs.Leaving.{sends_left}
 use Rattle.fab_peer.proofs.peer.Peer.tsend.Goals as goal
 
-pub returns : goal.returns
-returns g c =
+pub returns-clause-on : goal.returns-clause-on
+returns-clause-on g c =
     let seen = g.E.Sees.seen in
     let a = told seen c.args.self.now in
     let next = c.requires.next in
@@ -14,3 +15,13 @@ returns g c =
     (calls_tsend a c.args.ctx c.args.dest c.args.tag next.0 c.args.imm c.args.flags.level c.args.flags.completion c.args.flags.fence c.args.buf next.1 next.2) c.requires.log
     g.E.Sees.fixed c.args.dest c.args.buf c.tsend-answer.result c.why_of-why.result _ c.transmitted.result c.known.ensures
     c.tsend-answer.ensures.ok c.tsend-answer.ensures.err c.why_of-why.ensures c.transmitted.ensures.answered c.transmitted.ensures.moved
+
+pub returns-clause-left : goal.returns-clause-left
+returns-clause-left g c =
+    let seen = g.E.Sees.seen in
+    let a = told seen c.args.self.now in
+    let next = c.requires.next in
+    sends_left a (seen c.tsend-answer.new.self) (message TagMsg (Some c.args.ctx) c.args.dest c.args.tag c.args.buf c.args.imm c.args.flags.level c.args.flags.completion c.args.flags.fence)
+    (calls_tsend a c.args.ctx c.args.dest c.args.tag next.0 c.args.imm c.args.flags.level c.args.flags.completion c.args.flags.fence c.args.buf next.1 next.2) c.requires.log
+    g.E.Sees.fixed c.args.dest c.args.buf c.tsend-answer.result _ c.transmitted.result
+    c.tsend-answer.ensures.ok c.tsend-answer.ensures.err c.transmitted.ensures.left

@@ -7,7 +7,7 @@ use Rattle.fab_model.specs.Peers.{Actor}
 use Rattle.fab_model.specs.Replay.{Lawful, replayed}
 use Rattle.fab_laws.specs.Scripts.{ScriptLeadTo}
 use Rattle.fab_laws.specs.Headline.{Headline, HoldsOfAll}
-use Rattle.fab_laws.proofs.law_headline.Goals as goal
+use Rattle.fab_laws.proofs.headline.law_headline.Goals as goal
 
 pub returns : goal.returns
 returns c = record { headline = headline }
