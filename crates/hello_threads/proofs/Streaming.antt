@@ -1,6 +1,6 @@
 -- What a peer's calls add to what it sent and to what came, and what its run comes to.
 use Rattle.std.proofs.Common.{◌≡◌, ◌+◌, ◌<◌, ◌≤◌, ℕ, Bool, true, false, List, [], ◌∷◌, ◌++◌, length, get_or, take, drop, replicate, Option, None, Some, Result, refl, sym, ap, ◌∙◌, subst}
-use Rattle.std.specs.Prelude.{OnOk}
+use Rattle.std.specs.Prelude.{IfSome, OnOk}
 use Rattle.std.proofs.lemmas.List.{length-replicate, take-append-drop}
 use Rattle.fabric.specs.Answers.{Sends, SendsNot, receive_call}
 use Rattle.fabric.specs.Calls.{Call, message}
@@ -13,8 +13,9 @@ use Rattle.fabric.specs.Speaking.{Comes, IsAt, Keeps}
 use Rattle.fabric.specs.Words.{Entry, Fault, Inject, Msg, Received, Success}
 use Rattle.fabric.proofs.Speaking.{hears_not, hears_posted, hears_refused, hears_said, hears_unsaid, keeps_came, keeps_quiet, keeps_said, starts}
 use Rattle.hello_threads.specs.declared.stream.TheConstants.{ROOM}
+use Rattle.hello_threads.specs.declared.stream.Both.{Both}
 use Rattle.hello_threads.specs.declared.stream.Told.{Told}
-use Rattle.hello_threads.specs.Stream.{IsAsk, Runs, Talks, line}
+use Rattle.hello_threads.specs.Stream.{AreBoth, IsAsk, Runs, Talks, line}
 
 -- an entry that is not of a receive hands no message over
 pub no_message : (entry : Entry) → ((ctx source : ℕ) (tag imm : Option ℕ) (len : ℕ) (buf : List ℕ) → entry ≡ Received ctx source tag imm len buf → ⊥) → message_in (λ ctx. true) (Success entry) ≡ []
@@ -25,7 +26,7 @@ abbrev ask : ℕ → List ℕ → Posting
 ask other room = record { tagged = false; source = Some other; tag = 0; ignore = 0; buf = room; least = None; ctx = 0 }
 
 ask_is : (other : ℕ) (room : List ℕ) → room ≡ replicate ROOM 0 → IsAsk other (ask other room)
-ask_is other room zeros = record { single = refl; of_other = record { source = refl; tagged_so = refl; tag_is = refl; ignores = refl }; room = ap length zeros ∙ length-replicate ROOM 0 }
+ask_is other room zeros = record { single = refl; of_other = record { source = refl; tagged_so = refl; tag_is = refl; ignores = refl }; room = ap length zeros ∙ length-replicate {A = ℕ} ROOM 0 }
 
 module _ {Home : Type 0} (other : ℕ) where
   -- ---- one call
@@ -62,6 +63,34 @@ module _ {Home : Type 0} (other : ℕ) where
   pub hears : (texts : List (List ℕ)) (old new : Seen Home) (sent : ℕ) (before after : List (List ℕ)) → Comes (λ ctx. true) old new before after → KeepsSo texts old sent before new sent after
   hears texts old new sent before after comes = keeps_came (IsAsk other) (line other) (λ ctx. true) texts old new sent before after comes
 
-  pub runs_so : (texts : List (List ℕ)) (expects : ℕ) (old new : Seen Home) (sent : ℕ) (told : Told) → IsAt (IsAsk other) (line other) (λ ctx. true) texts old new sent told.came.items → OnOk told.ended (expects ≤ length told.came.items)
+  pub runs :
+      (texts slice : List (List ℕ)) (expects sent : ℕ) (old new : Seen Home) (start : List (List ℕ)) (told : Told) → slice ≡ texts → start ≡ [] → KeepsSo slice old 0 start new sent told.came.items → OnOk told.ended (expects ≤ length told.came.items)
       → Runs other texts expects old new told
-  runs_so texts expects old new sent told at all = record { said = take sent texts; first = (drop sent texts, take-append-drop sent texts); talks = at.hears; all = all }
+  runs texts slice expects sent old new start told same none keeps all =
+      let at = subst (λ (ts : List (List ℕ)). IsAt (IsAsk other) (line other) (λ ctx. true) ts old new sent told.came.items) same
+      (keeps old (subst (λ (came : List (List ℕ)). IsAt (IsAsk other) (line other) (λ ctx. true) slice old old 0 came) (sym none) (begins slice old))) in
+      record { said = take sent texts; first = (drop sent texts, take-append-drop sent texts); talks = at.hears; all = all }
+
+-- both peers' runs, as their threads' functions say of them
+pub both_so :
+    {E Home : Type 0} (seen : E → Seen Home) (zero one : List (List ℕ)) (many few : ℕ) (all left : List E) (a b f h : E) (told_f told_h told_zero told_one : Told) → all ≡ a ∷ b ∷ [] → (seen a).held.state.caps.directed_recv ≡ true → left ≡ f ∷ h ∷ []
+    → told_zero ≡ told_f → told_one ≡ told_h → few ≡ length one → many ≡ length zero → Runs 1 zero few (seen a) (seen f) told_f → Runs 0 one many (seen b) (seen h) told_h → AreBoth seen zero one all left told_zero told_one
+both_so seen zero one many few all left a b f h told_f told_h told_zero told_one opened directed leaves is_f is_h ones zeros runs_f runs_h = record {
+  opened_zero = a;
+  opened_one = b;
+  left_zero = f;
+  left_one = h;
+  opened = opened;
+  leaves = leaves;
+  directed = directed;
+  runs_zero = subst (λ (told : Told). Runs 1 zero (length one) (seen a) (seen f) told) (sym is_f) (subst (λ (n : ℕ). Runs 1 zero n (seen a) (seen f) told_f) ones runs_f);
+  runs_one = subst (λ (told : Told). Runs 0 one (length zero) (seen b) (seen h) told) (sym is_h) (subst (λ (n : ℕ). Runs 0 one n (seen b) (seen h) told_h) zeros runs_h);
+}
+
+pub both_if :
+    {E Home : Type 0} (seen : E → Seen Home) (zero one : List (List ℕ)) (many few : ℕ) (all : List E) (a b f h : E) (told_f told_h : Told) (r : Option (Both E)) → all ≡ a ∷ b ∷ [] → (seen a).held.state.caps.directed_recv ≡ true
+    → IfSome r (λ (both : Both E). both.endpoints.items ≡ f ∷ h ∷ []) → IfSome r (λ (both : Both E). (both.zero ≡ told_f) × (both.one ≡ told_h)) → few ≡ length one → many ≡ length zero → Runs 1 zero few (seen a) (seen f) told_f → Runs 0 one many (seen b) (seen h) told_h
+    → IfSome r (λ (both : Both E). AreBoth seen zero one all both.endpoints.items both.zero both.one)
+both_if seen zero one many few all a b f h told_f told_h None opened directed leaves told ones zeros runs_f runs_h = tt
+both_if seen zero one many few all a b f h told_f told_h (Some both) opened directed leaves (is_f, is_h) ones zeros runs_f runs_h =
+    both_so seen zero one many few all both.endpoints.items a b f h told_f told_h both.zero both.one opened directed leaves is_f is_h ones zeros runs_f runs_h

@@ -15,10 +15,9 @@ use Rattle.fabric.specs.Seen.{ring_seen}
 use Rattle.fabric.specs.Sending.{Order}
 use Rattle.fabric.specs.Speakers.{Endpoint, HaveRoom, Picks, Speaker, opened_by, speaker_of, threads_by, want_for}
 use Rattle.fabric.specs.Views.{IsPrefixOf}
-use Rattle.fabric.specs.State.{State}
 use Rattle.fabric.specs.Words.{Fault, Info}
 use Rattle.fabric.proofs.Lists.{in_front, mapped, never}
-use Rattle.fabric.proofs.Speakers.{hears, opens_so, speakers_end, speakers_left}
+use Rattle.fabric.proofs.Speakers.{hears, speakers_end, speakers_left}
 use Rattle.hello_threads.specs.declared.stream.Told.{Told}
 use Rattle.hello_threads.specs.Stream.{AreBoth, IsAsk, IsShort, Runs, Talks, line}
 
@@ -94,7 +93,7 @@ module _ (zero_texts one_texts : List (List ℕ)) (all left : List Endpoint) (to
 
     is_directed : info.caps.directed_recv ≡ true
     unfolding ring_seen
-    is_directed = sym (ap (λ (s : State). s.caps.directed_recv) (opens_so info selective speakers opened_so 0 (peer_of 1 zero_texts (length one_texts) both.opened_zero both.left_zero told_zero both.runs_zero) refl)) ∙ both.directed
+    is_directed = sym (ap (λ (x : Endpoint). x.held.state.caps.directed_recv) (opened_so.opened 0 both.opened_zero (omega arith))) ∙ both.directed
 
     module _ (law : LibraryHears) (run : IsLibraryRun (opened_by speakers) (threads_by speakers)) where
       one_way :

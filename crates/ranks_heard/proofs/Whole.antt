@@ -18,11 +18,10 @@ use Rattle.fabric.specs.Receiving.{Posting}
 use Rattle.fabric.specs.Seen.{ring_seen}
 use Rattle.fabric.specs.Sending.{Order}
 use Rattle.fabric.specs.Speakers.{Endpoint, HaveRoom, IsApart, Picks, Speaker, opened_by, speaker_of, threads_by, want_for}
-use Rattle.fabric.specs.State.{State}
 use Rattle.fabric.specs.Views.{IsPrefixOf}
 use Rattle.fabric.specs.Words.{Info, ItemHead}
 use Rattle.fabric.proofs.Lists.{in_front, mapped, never}
-use Rattle.fabric.proofs.Speakers.{hears, opens_so, speakers_end, speakers_left}
+use Rattle.fabric.proofs.Speakers.{hears, speakers_end, speakers_left}
 use Rattle.ranks_heard.specs.declared.rank.TheConstants.{ANY, ONE}
 use Rattle.ranks_heard.specs.declared.rank.Line.{Line}
 use Rattle.ranks_heard.specs.declared.rank.Told.{Told}
@@ -137,7 +136,7 @@ module _ (one_lines : List Line) (all left : List Endpoint) (told : Told) (four 
 
     is_directed : info.caps.directed_recv ≡ true
     unfolding ring_seen
-    is_directed = sym (ap (λ (s : State). s.caps.directed_recv) (opens_so info selective speakers opened_so 0 zeroth refl)) ∙ four.directed
+    is_directed = sym (ap (λ (x : Endpoint). x.held.state.caps.directed_recv) (opened_so.opened 0 four.opened_zero (omega arith))) ∙ four.directed
 
     pub heard_first : LibraryHears → IsLibraryRun (opened_by speakers) (threads_by speakers) → All IsShort one_lines → IsPrefixOf told.came.items (under ONE one_lines)
     heard_first law run short =

@@ -1,7 +1,7 @@
 //! What a rank does: it tells rank 0 its lines, and rank 0 listens, to rank 1 under one tag and to any rank under another.
 //!
 //! It is written over any endpoint: the clauses of a given one would be carried through each function.
-ghost use Rattle.std.specs.Prelude.{◌≡◌, ◌<◌, ◌≤◌, ◌++◌, ◌∷◌, [], true, false, length, take, IfErr, IfOk, IfSome, IsTrue, OnErr, OnOk, Ok, Some, vec_capacity, vec_len};
+ghost use Rattle.std.specs.Prelude.{◌≡◌, ◌<◌, ◌≤◌, ◌++◌, ◌∷◌, [], true, length, take, IfErr, IfOk, IfSome, IsTrue, OnErr, OnOk, Ok, Some, vec_capacity, vec_len};
 ghost use Rattle.fabric.specs.Heard.{message_in};
 ghost use Rattle.fabric.specs.Speaking.{Comes, messages, reads_by};
 ghost use Rattle.fabric.specs.Words.{Success};
@@ -266,17 +266,6 @@ fn run<R: Wait, E: Calls + Drop>(rt: &R, alloc: Global, job: Job<E>) -> Ran<E>
     Ran { endpoint, told }
 }
 
-/// The job of a rank that tells its lines and does not listen.
-fn job<E: Drop>(endpoint: EndpointOver<E>, lines: Vec<Line>) -> Job<E>
-    ensures { result ≡ record { endpoint = endpoint; lines = lines; listens = false } }
-{
-    Job {
-        endpoint,
-        lines,
-        listens: false,
-    }
-}
-
 /// Lets two ranks do their jobs, each in a thread of its own.
 fn pair<R: Threads + Wait + Sync, E: Calls + Drop + Send>(
     rt: &R,
@@ -373,14 +362,32 @@ pub fn talk<R: Threads + Wait + Sync, E: Calls + Drop + Send>(
 ) -> Option<Four<E>>
     ensures { IfSome result (λ four. AreFour E.seen one.items endpoints.items four.endpoints.items four.told) }
 {
-    let ((first, second), (third, last)) = four(endpoints)?;
-    let zero = Job {
-        endpoint: first,
-        lines: Vec::new(alloc),
-        listens: true,
-    };
-    let low = (zero, job(second, one));
-    let high = (job(third, two), job(last, three));
+    let all = four(endpoints)?;
+    let ((zero, first), (second, third)) = all;
+    let low = (
+        Job {
+            endpoint: zero,
+            lines: Vec::new(alloc),
+            listens: true,
+        },
+        Job {
+            endpoint: first,
+            lines: one,
+            listens: false,
+        },
+    );
+    let high = (
+        Job {
+            endpoint: second,
+            lines: two,
+            listens: false,
+        },
+        Job {
+            endpoint: third,
+            lines: three,
+            listens: false,
+        },
+    );
     let (low, high) = two_pairs(rt, alloc, low, high);
     together(alloc, low, high)
 }
