@@ -67,3 +67,5 @@ pub use Rattle.fab_library_laws.specs.Library
 pub use Rattle.fab_library_laws.specs.Closing
 pub use Rattle.fab_doings.specs.Heard
 pub use Rattle.fab_library_laws.specs.Hearing
+pub use Rattle.fab_library_laws.specs.Speaking
+pub use Rattle.fab_library_laws.specs.Speakers

@@ -26,6 +26,8 @@ pub use Rattle.fab_base.specs.declared.operations.Receive.{Receive}
 pub use Rattle.fab_base.specs.declared.operations.Arrival.{Arrival}
 pub use Rattle.fab_base.specs.declared.operations.Coming.TheVariants.{Into}
 pub use Rattle.fab_face.specs.declared.probing.Probed.{Probed}
+pub use Rattle.fab_base.specs.declared.caps.Info.{Info}
+pub use Rattle.fab_base.specs.declared.items.ItemHead.{ItemHead}
 pub use Rattle.fab_table.specs.declared.lane_table.LaneTable.{LaneTable}
 pub use Rattle.fab_app.specs.declared.clock.Moment.{Moment}
 pub use Rattle.fab_app.specs.declared.until.WaitFault.{WaitFault}

@@ -1,102 +1,79 @@
-//! Two threads send each other 100,000 messages, with receives posted ahead.
+//! Two threads send each other 100,000 messages, with receives posted ahead, and what came is what was sent, in order.
 //!
-//! What a thread does is written over any endpoint: the clauses of a given one would be carried through each function.
+//! What a thread does is in `stream.rt`, over any endpoint. Here the endpoints are opened, and closed once the threads are joined: `close_all` and
+//! `law_library_heard` tell then what all that the two threads did comes to.
 #![tactic(auto)]
 
-use fabric::{Buf, Calls, EndpointOver, Entry, Fault, Hints, Polled, again, open};
+ghost use Rattle.std.specs.Prelude.{◌≡◌, IfOk, OnOk};
+ghost use Rattle.std.specs.List.{All};
+ghost use Rattle.fabric.specs.Views.{IsPrefixOf};
+ghost use Rattle.hello_threads.specs.Stream.{IsShort};
+
+mod stream;
+
+use fabric::{Buf, Fault, Hints, close_all, law_library_heard, open};
 use std::alloc::Global;
 use std::sync::Wait;
-use std::thread::{Threads, join};
+use std::thread::Threads;
+use stream::{Both, Told, talk};
 
-const MESSAGES: u32 = 100_000;
-/// How many receives are posted ahead.
-const AHEAD: u32 = 16;
+const MESSAGES: u64 = 100_000;
 
-/// Posts a receive of a message from the other peer, if a buffer is free. One that is refused for now stays free.
-fn post<E: Calls + Drop>(
-    endpoint: &mut EndpointOver<E>,
-    other: u32,
-    free: &mut Vec<Buf>,
-) -> Result<(), Fault> {
-    if let Some(buf) = free.pop() {
-        if let Err(refused) = endpoint.recv(Some(other), buf, 0) {
-            free.push(again(refused)?)?;
-        }
-    }
-    Ok(())
-}
-
-/// The buffer of the next receive that is complete, if one is.
-fn receive<E: Calls + Drop>(endpoint: &mut EndpointOver<E>) -> Result<Option<Buf>, Fault> {
-    let polled = endpoint.wait(100)?;
-    match polled {
-        Polled::Entry(Entry::Received { buf, .. }) => Ok(Some(buf)),
-        Polled::Error(_) => Err(Fault::Avail),
-        _ => Ok(None),
-    }
-}
-
-/// The buffers of the receives that are posted ahead.
-fn buffers(alloc: Global) -> Result<Vec<Buf>, Fault> {
-    let mut free = Vec::new(alloc);
-    for _ in 0..AHEAD {
-        let buf = Buf::zeros(alloc, 8)?;
-        free.push(buf)?;
-    }
-    Ok(free)
-}
-
-/// Sends and receives all messages, and gives how many came.
-fn run<R: Wait, E: Calls + Drop>(
+/// Two peers, each in a thread of its own, send each other these texts.
+///
+/// What came to a peer is, in order, the first of the texts that the other was given, and all of them where the peer's stream ended well.
+pub fn hello<R: Threads + Wait + Sync>(
     rt: &R,
     alloc: Global,
-    mut endpoint: EndpointOver<E>,
-    other: u32,
-) -> Result<u32, Fault> {
-    let mut free = buffers(alloc)?;
-    let (mut sent, mut came) = (0, 0);
-    for _ in rt.forever() {
-        if came == MESSAGES && sent == MESSAGES && endpoint.is_flushed() {
-            break;
-        }
-        post(&mut endpoint, other, &mut free)?;
-        if sent < MESSAGES {
-            match endpoint.inject(other, b"8 bytes!", None) {
-                Ok(()) => sent += 1,
-                Err(Fault::Again(_)) => {}
-                Err(fault) => return Err(fault),
-            }
-        }
-        if let Some(buf) = receive(&mut endpoint)? {
-            came = came.saturating_add(1);
-            free.push(buf)?;
-        }
+    zero: Vec<Buf>,
+    one: Vec<Buf>,
+) -> Result<(Told, Told), Fault>
+    requires zero_short { All IsShort zero.items }
+    requires one_short { All IsShort one.items }
+    ensures first { IfOk result (λ told. IsPrefixOf told.0.came.items one.items × IsPrefixOf told.1.came.items zero.items) }
+    ensures all { IfOk result (λ told. OnOk told.0.ended (told.0.came.items ≡ one.items) × OnOk told.1.ended (told.1.came.items ≡ zero.items)) }
+{
+    law_library_heard();
+    let domain = open(alloc, &Hints::new().peers(2))?;
+    let Some(both) = talk(rt, alloc, domain.endpoints, zero, one) else {
+        return Err(Fault::NoMemory);
+    };
+    let Both {
+        endpoints,
+        zero,
+        one,
+    } = both;
+    match close_all(alloc, endpoints) {
+        Ok(_ports) => Ok((zero, one)),
+        Err(_unclosed) => Err(Fault::NoMemory),
     }
-    Ok(came)
 }
 
-/// Lets two peers run, each in a thread of its own.
-fn both<R: Threads + Wait + Sync, E: Calls + Drop + Send>(
-    rt: &R,
-    alloc: Global,
-    mut endpoints: Vec<EndpointOver<E>>,
-) -> Option<(Result<u32, Fault>, Result<u32, Fault>)> {
-    let one = endpoints.pop()?;
-    let zero = endpoints.pop()?;
-    Some(join(
-        rt,
-        || -> Result<u32, Fault> { run(rt, alloc, zero, 1) },
-        || -> Result<u32, Fault> { run(rt, alloc, one, 0) },
-    ))
+/// So many texts: the numbers from this one on.
+fn texts(alloc: Global, from: u64) -> Result<Vec<Buf>, Fault>
+    ensures { IfOk result (λ all. All IsShort all.items) }
+{
+    let mut all = Vec::new(alloc);
+    for number in 0..MESSAGES {
+        let text = Buf::copy(alloc, &from.wrapping_add(number).to_le_bytes())?;
+        all.push(text)?;
+    }
+    Ok(all)
+}
+
+/// How many messages came to each peer.
+fn counts<R: Threads + Wait + Sync>(rt: &R, alloc: Global) -> Result<(usize, usize), Fault> {
+    let zero = texts(alloc, 0)?;
+    let one = texts(alloc, MESSAGES)?;
+    let (zero, one) = hello(rt, alloc, zero, one)?;
+    zero.ended?;
+    one.ended?;
+    Ok((zero.came.len(), one.came.len()))
 }
 
 fn main(rt: HostRuntime) -> std::io::Result<()> {
-    let ran = match open(rt.alloc(), &Hints::new().peers(2)) {
-        Ok(domain) => both(&rt, rt.alloc(), domain.endpoints),
-        Err(_) => None,
-    };
-    match ran {
-        Some((Ok(a), Ok(b))) => println!(rt; "{a} messages came to peer 0, {b} to peer 1"),
-        _ => println!(rt; "no endpoints, or a call was refused"),
+    match counts(&rt, rt.alloc()) {
+        Ok((zero, one)) => println!(rt; "{zero} messages came to peer 0, {one} to peer 1"),
+        Err(_) => println!(rt; "no endpoints, or a call was refused"),
     }
 }
