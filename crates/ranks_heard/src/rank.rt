@@ -305,7 +305,7 @@ fn two_pairs<R: Threads + Wait + Sync, E: Calls + Drop + Send>(
 }
 
 /// The endpoints of four ranks whose receives name their sources, if these are such.
-fn four<E: Calls + Drop>(
+fn ranks_of<E: Calls + Drop>(
     endpoints: Vec<EndpointOver<E>>,
 ) -> Option<
     (
@@ -362,7 +362,7 @@ pub fn talk<R: Threads + Wait + Sync, E: Calls + Drop + Send>(
 ) -> Option<Four<E>>
     ensures { IfSome result (λ four. AreFour E.seen one.items endpoints.items four.endpoints.items four.told) }
 {
-    let all = four(endpoints)?;
+    let all = ranks_of(endpoints)?;
     let ((zero, first), (second, third)) = all;
     let low = (
         Job {
