@@ -1,3 +1,4 @@
+pub mod Asleep
 pub mod Collecting
 pub mod Errors
 pub mod Going

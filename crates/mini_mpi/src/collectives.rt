@@ -82,7 +82,7 @@ impl<E: Calls + Drop> World<E> {
                 Some(bytes) => return Ok(bytes),
                 None => {}
             }
-            self.progress_for(&mut collective)?;
+            self.progress_for(rt, &mut collective)?;
         }
         unreachable!()
     }

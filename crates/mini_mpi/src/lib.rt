@@ -10,10 +10,11 @@
 //! ```
 //!
 //! A buffer moves in with a call, and comes back with its request's end. Calls that wait take a handle of the runtime; the others return
-//! at once, whatever other ranks do. What a
+//! at once, whatever other ranks do. A rank that waits spins, or sleeps where the world was opened so (`Waiting`). What a
 //! program needs of `fabric` besides, to open the endpoints of its ranks and to make buffers, is handed on.
 #![tactic(auto)]
 
+mod asleep;
 mod begun;
 mod collectives;
 mod ended;
@@ -22,8 +23,9 @@ mod moving;
 mod posting;
 mod world;
 
+pub use asleep::Waiting;
 pub use ended::{Completed, Request, Status};
 pub use errors::{Error, Failed};
-pub use fabric::{AtomicOp, Buf, Calls, EndpointOver, Hints, NoMemory, Num, open};
+pub use fabric::{AtomicOp, Buf, Calls, EndpointOver, Hints, NoMemory, Num, Sleeps, open};
 pub use mini_mpi_parts::{ANY_SOURCE, ANY_TAG, TAG_UB};
 pub use world::World;

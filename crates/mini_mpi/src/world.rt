@@ -1,22 +1,26 @@
 //! A rank, and its messages to and from single ranks.
-ghost use Rattle.std.specs.Prelude.{◌≡◌, true, [], None, Some, IfErr, IfOk, IfSome, OnErr, OnOk};
+ghost use Rattle.std.specs.Prelude.{◌≡◌, ◌<◌, true, [], None, Some, IfErr, IfOk, IfSome, OnErr, OnOk, vec_len, vec_capacity};
 ghost use Rattle.fabric.specs.Probes.{probed};
 ghost use Rattle.fabric.specs.Progresses.{is_flushed};
 ghost use Rattle.fabric.specs.Words.{Match, Polled, Transmit};
 ghost use Rattle.mini_mpi_parts.specs.Tags.{wanted};
+ghost use Rattle.mini_mpi.specs.Asleep.{waiting_of};
 ghost use Rattle.mini_mpi.specs.Collecting.{HearsOf, member_of};
 ghost use Rattle.mini_mpi.specs.Errors.{RefusesWrong};
-ghost use Rattle.mini_mpi.specs.Going.{Goes, PostsAll, rank_of};
+ghost use Rattle.mini_mpi.specs.Going.{Comes, Goes, LacksMemory, PostsAll, rank_of};
 ghost use Rattle.mini_mpi.specs.Posting.{BeginsReceive, BeginsSend};
 ghost use Rattle.mini_mpi.specs.Requests.{EndsAs, at_of, told};
 ghost use Rattle.mini_mpi.specs.Waiting.{AwaitsEnd, EndAll, Joins, SendsAndWaits, fresh_of, ids_of};
 
+use crate::asleep::{Waiting, next_asleep};
 use crate::begun::{Begun, Receiving, Sending};
 use crate::ended::{Completed, Request, Status, told};
 use crate::errors::{Error, Failed, error_of};
 use crate::moving::{next, progress};
 use crate::posting::{begin_receive, begin_send, post_receives};
-use fabric::{Buf, Calls, Collective, EndpointOver, Group, Level};
+use fabric::{
+    Buf, Calls, Collective, EndpointOver, Group, Level, Polled, Sleeper, Sleeps, with_sleeper,
+};
 use mini_mpi_parts::{take_ended, wanted, wrong_with};
 use std::alloc::Global;
 use std::sync::Wait;
@@ -31,14 +35,34 @@ pub struct World<E: Calls + Drop> {
     pub(crate) endpoint: EndpointOver<E>,
     pub(crate) group: Group,
     pub(crate) begun: Begun,
+    /// Who sleeps for this rank. It spins where nobody does.
+    pub(crate) sleeper: Option<Sleeper>,
+}
+
+impl<E: Calls + Sleeps + Drop> World<E> {
+    /// The rank of an endpoint, as of `new`, which waits so. The endpoints of ranks that sleep are opened with sleeping
+    /// (`Hints::sleeping`). Over others a rank that is to sleep lets other threads run in its place.
+    pub fn with_waiting(alloc: Global, endpoint: EndpointOver<E>, waiting: Waiting) -> World<E>
+        ensures rank { result.group.rank ≡ (E.seen endpoint).lanes.number }
+        ensures size { result.group.peers ≡ (E.seen endpoint).lanes.peers }
+        ensures waits { waiting_of result.sleeper ≡ waiting }
+    {
+        match waiting {
+            Waiting::Spin => World::new(alloc, endpoint),
+            Waiting::Sleep => {
+                let (endpoint, sleeper) = with_sleeper(endpoint);
+                World::of(alloc, endpoint, Some(sleeper))
+            }
+        }
+    }
 }
 
 impl<E: Calls + Drop> World<E> {
-    /// The rank of an endpoint (MPI_Init): its own number among the peers of its domain. The endpoint is opened for directed
-    /// receives, as whoever asks for no capability has it; else a named source counts for nothing.
-    pub fn new(alloc: Global, endpoint: EndpointOver<E>) -> World<E>
+    /// The rank of an endpoint, for which somebody sleeps or nobody.
+    fn of(alloc: Global, endpoint: EndpointOver<E>, sleeper: Option<Sleeper>) -> World<E>
         ensures rank { result.group.rank ≡ (E.seen endpoint).lanes.number }
         ensures size { result.group.peers ≡ (E.seen endpoint).lanes.peers }
+        ensures waits { result.sleeper ≡ sleeper }
     {
         let group = Group::of(alloc, &endpoint);
         World {
@@ -46,7 +70,18 @@ impl<E: Calls + Drop> World<E> {
             endpoint,
             group,
             begun: Begun::new(alloc),
+            sleeper,
         }
+    }
+
+    /// The rank of an endpoint (MPI_Init): its own number among the peers of its domain. The endpoint is opened for directed
+    /// receives, as whoever asks for no capability has it; else a named source counts for nothing. The rank spins where it waits.
+    pub fn new(alloc: Global, endpoint: EndpointOver<E>) -> World<E>
+        ensures rank { result.group.rank ≡ (E.seen endpoint).lanes.number }
+        ensures size { result.group.peers ≡ (E.seen endpoint).lanes.peers }
+        ensures waits { waiting_of result.sleeper ≡ Waiting.Spin }
+    {
+        World::of(alloc, endpoint, None)
     }
 
     /// This rank (MPI_Comm_rank).
@@ -63,12 +98,43 @@ impl<E: Calls + Drop> World<E> {
         self.group.peers()
     }
 
+    /// Posts what waits, and reads the next completion: asleep, or in at most so many turns with other ranks and one try more. There is
+    /// room to keep its end.
+    fn next<R: Wait>(&mut self, rt: &R, turns: u32) -> Result<Polled, Error>
+        ensures room { OnOk result (vec_len self.new.begun.ended < vec_capacity self.new.begun.ended) }
+        ensures ok { IfOk result (λ polled. Comes E.fixed polled (rank_of (E.seen self.old.endpoint) self.old.begun) (rank_of (E.seen self.new.endpoint) self.new.begun)) }
+        ensures err { IfErr result (λ why. (why ≡ Error.NoMem) × Goes E.fixed (rank_of (E.seen self.old.endpoint) self.old.begun) (rank_of (E.seen self.new.endpoint) self.new.begun)) }
+        ensures lacks { OnErr result (LacksMemory E.fixed (rank_of (E.seen self.old.endpoint) self.old.begun) (rank_of (E.seen self.new.endpoint) self.new.begun) self.new.begun) }
+        ensures ranks { self.new.group ≡ self.old.group }
+    {
+        match &mut self.sleeper {
+            Some(sleeper) => next_asleep(rt, &mut self.endpoint, &mut self.begun, sleeper),
+            None => next(&mut self.endpoint, &mut self.begun, turns),
+        }
+    }
+
+    /// Makes progress, and keeps the end of a request for the wait for it.
+    fn progress<R: Wait>(&mut self, rt: &R, turns: u32) -> Result<(), Error>
+        ensures goes { Goes E.fixed (rank_of (E.seen self.old.endpoint) self.old.begun) (rank_of (E.seen self.new.endpoint) self.new.begun) }
+        ensures err { IfErr result (λ why. why ≡ Error.NoMem) }
+        ensures lacks { OnErr result (LacksMemory E.fixed (rank_of (E.seen self.old.endpoint) self.old.begun) (rank_of (E.seen self.new.endpoint) self.new.begun) self.new.begun) }
+        ensures ranks { self.new.group ≡ self.old.group }
+    {
+        let polled = self.next(rt, turns)?;
+        self.begun.keep(polled);
+        Ok(())
+    }
+
     /// Makes progress while a collective is under way, which takes its own completions.
-    pub(crate) fn progress_for(&mut self, collective: &mut Collective) -> Result<(), Error>
+    pub(crate) fn progress_for<R: Wait>(
+        &mut self,
+        rt: &R,
+        collective: &mut Collective,
+    ) -> Result<(), Error>
         ensures heard { OnOk result ((polled : Polled) × HearsOf E.fixed polled (member_of (E.seen self.old.endpoint) self.old.begun collective.old) (member_of (E.seen self.new.endpoint) self.new.begun collective.new)) }
         ensures ranks { self.new.group ≡ self.old.group }
     {
-        let polled = next(&mut self.endpoint, &mut self.begun, PATIENCE)?;
+        let polled = self.next(rt, PATIENCE)?;
         match collective.offer(polled) {
             Some(other) => self.begun.keep(other),
             None => {}
@@ -184,7 +250,7 @@ impl<E: Calls + Drop> World<E> {
         ensures ranks { self.new.group ≡ self.old.group }
     {
         for _ in rt.forever() {
-            progress(&mut self.endpoint, &mut self.begun, PATIENCE)?;
+            self.progress(rt, PATIENCE)?;
             match take_ended(&mut self.begun.ended, id) {
                 Some(ended) => return ended.end,
                 None => {}
@@ -222,7 +288,7 @@ impl<E: Calls + Drop> World<E> {
             if self.begun.sends.is_empty() && self.endpoint.is_flushed() {
                 return Ok(());
             }
-            progress(&mut self.endpoint, &mut self.begun, 1)?;
+            self.progress(rt, 1)?;
         }
         unreachable!()
     }

@@ -1,15 +1,27 @@
 //! The collectives of `mini_mpi` among 7 ranks, which tell each other straight, and among 8, 11 and 32, which do by doubling, each rank in a
-//! thread of its own.
+//! thread of its own; and once more among 8 ranks that sleep while they wait, and 32 that do where there are fewer processors.
+//!
+//! Words are for who measures: `mpi_ranks ROUNDS RANKS spin` and `mpi_ranks ROUNDS RANKS sleep` make so many rounds of a barrier and an
+//! allreduce among so many ranks, and tell how long a round takes. Without the last word the number of processors decides.
 #![tactic(auto)]
 
-use mini_mpi::{AtomicOp, Calls, EndpointOver, Error, Hints, Num, World, open};
+mod rounds;
+
+use mini_mpi::{AtomicOp, Calls, EndpointOver, Error, Hints, Num, Sleeps, Waiting, World, open};
+use rounds::read_words;
 use std::alloc::Global;
 use std::sync::Wait;
 use std::sync::atomic::{AtomicU32, Ordering};
 use std::thread::{self, Threads};
 
-/// How many ranks there are in each run.
+/// How many ranks there are in each run in which they spin.
 const RANKS: [u32; 4] = [7, 8, 11, 32];
+
+/// How many there are in the run in which they sleep.
+const SLEEPERS: u32 = 8;
+
+/// How many there are in the run in which the number of processors decides.
+const MANY: u32 = 32;
 
 /// So often who comes late at a barrier lets others run before.
 const PAUSES: u32 = 200;
@@ -85,13 +97,14 @@ fn meets<R: Wait, E: Calls + Drop>(
 }
 
 /// Does all, as the rank of this endpoint.
-fn run<R: Wait, E: Calls + Drop>(
+fn run<R: Wait, E: Calls + Sleeps + Drop>(
     rt: &R,
     alloc: Global,
     endpoint: EndpointOver<E>,
+    waiting: Waiting,
     come: &Come,
 ) -> Result<bool, Error> {
-    let mut world = World::new(alloc, endpoint);
+    let mut world = World::with_waiting(alloc, endpoint, waiting);
     let last = world.size().saturating_sub(1);
     let met = meets(rt, &mut world, 0, &come.late_first)?;
     let met_again = meets(rt, &mut world, last, &come.late_last)?;
@@ -104,16 +117,21 @@ fn run<R: Wait, E: Calls + Drop>(
 }
 
 /// Lets each rank run in a thread of its own.
-fn all_ranks<R: Threads + Wait + Sync, E: Calls + Drop + Send>(
+fn all_ranks<R: Threads + Wait + Sync, E: Calls + Sleeps + Drop + Send>(
     rt: &R,
     alloc: Global,
     endpoints: Vec<EndpointOver<E>>,
+    waiting: Waiting,
 ) -> Result<Vec<Result<bool, Error>>, Error> {
     let come = Come {
         late_first: AtomicU32::new(0),
         late_last: AtomicU32::new(0),
     };
-    let all = thread::map_vec(rt, endpoints, &|endpoint| run(rt, alloc, endpoint, &come))?;
+    let all = thread::map_vec(
+        rt,
+        endpoints,
+        &|endpoint| run(rt, alloc, endpoint, waiting, &come),
+    )?;
     Ok(all)
 }
 
@@ -125,18 +143,40 @@ fn are_right(ran: &Result<Vec<Result<bool, Error>>, Error>, peers: u32) -> bool 
     }
 }
 
-fn main(rt: HostRuntime) -> std::io::Result<()> {
+/// Whether so many ranks that wait so got what they are to get, in a word.
+fn word_of<R: Threads + Wait + Sync>(
+    rt: &R,
+    alloc: Global,
+    peers: u32,
+    waiting: Waiting,
+) -> &'static str {
+    let hints = Hints::new().peers(peers).sleeping(waiting.sleeps());
+    let ran = match open(alloc, &hints) {
+        Ok(domain) => all_ranks(rt, alloc, domain.endpoints, waiting),
+        Err(fault) => Err(Error::from(fault)),
+    };
+    if are_right(&ran, peers) {
+        "pass"
+    } else {
+        "FAIL"
+    }
+}
+
+/// Runs of ranks that spin, of such as sleep, and of such as do what the number of processors says.
+fn run_all<R: Print + Threads + Wait + Sync>(rt: &R, alloc: Global) -> std::io::Result<()> {
     for peers in RANKS {
-        let ran = match open(rt.alloc(), &Hints::new().peers(peers)) {
-            Ok(domain) => all_ranks(&rt, rt.alloc(), domain.endpoints),
-            Err(fault) => Err(Error::from(fault)),
-        };
-        let word = if are_right(&ran, peers) {
-            "pass"
-        } else {
-            "FAIL"
-        };
+        let word = word_of(rt, alloc, peers, Waiting::Spin);
         println!(rt; "{peers} ranks: {word}")?;
     }
-    Ok(())
+    let word = word_of(rt, alloc, SLEEPERS, Waiting::Sleep);
+    println!(rt; "{SLEEPERS} ranks that sleep: {word}")?;
+    let word = word_of(rt, alloc, MANY, Waiting::here(rt, MANY));
+    println!(rt; "{MANY} ranks that sleep where there are fewer processors: {word}")
+}
+
+fn main(rt: HostRuntime) -> std::io::Result<()> {
+    match read_words(&rt)? {
+        Some(asked) => rounds::measure(&rt, rt.alloc(), asked),
+        None => run_all(&rt, rt.alloc()),
+    }
 }

@@ -10,11 +10,11 @@ pub returns-in-Some-clause-heard : goal.returns-in-Some-clause-heard
 returns-in-Some-clause-heard g c = (
   c.in_ok-polled.polled,
   record {
-    mid = rank_of (g.E.Sees.seen c.next.new.endpoint) c.next.new.begun;
+    mid = rank_of (g.E.Sees.seen c.next.new.self.endpoint) c.next.new.self.begun;
     comes = c.in_ok-polled.ensures.ok;
     seen = refl;
     calls = (ap (λ deque. deque.items) c.keep.ensures.others.0, ap (λ deque. deque.items) c.keep.ensures.others.1);
-    ended = c.keep.ensures.ended ∙ ap (λ (xs : List (Ended End)). c.next.new.begun.ended.items ++ xs)
+    ended = c.keep.ensures.ended ∙ ap (λ (xs : List (Ended End)). c.next.new.self.begun.ended.items ++ xs)
         (kept_back c.args.collective.now.work c.in_ok-polled.polled c.in-Some.other c.in-Some.ensures.back c.in-Some.ensures.taken);
     offered = (c.offer.ensures.work, c.offer.ensures.own, c.offer.ensures.received, c.offer.ensures.awaited, c.offer.ensures.failed, c.offer.ensures.calls.0, c.offer.ensures.calls.1);
   },
@@ -24,11 +24,11 @@ pub returns-in-None-clause-heard : goal.returns-in-None-clause-heard
 returns-in-None-clause-heard g c = (
   c.in_ok-polled.polled,
   record {
-    mid = rank_of (g.E.Sees.seen c.next.new.endpoint) c.next.new.begun;
+    mid = rank_of (g.E.Sees.seen c.next.new.self.endpoint) c.next.new.self.begun;
     comes = c.in_ok-polled.ensures.ok;
     seen = refl;
     calls = (refl, refl);
-    ended = sym (append-nil c.next.new.begun.ended.items) ∙ ap (λ (xs : List (Ended End)). c.next.new.begun.ended.items ++ xs)
+    ended = sym (append-nil c.next.new.self.begun.ended.items) ∙ ap (λ (xs : List (Ended End)). c.next.new.self.begun.ended.items ++ xs)
         (kept_none c.args.collective.now.work c.in_ok-polled.polled c.in-None.ensures.back);
     offered = (c.offer.ensures.work, c.offer.ensures.own, c.offer.ensures.received, c.offer.ensures.awaited, c.offer.ensures.failed, c.offer.ensures.calls.0, c.offer.ensures.calls.1);
   },
