@@ -77,7 +77,7 @@ impl RingPort {
         if put - got >= room || self.clock >= MOST {
             return Err(PostRefused::LaneFull);
         }
-        let lane = me * self.fabric.peers() + to;
+        let lane = to * self.fabric.peers() + me;
         let cell = self.put_cells[dest as usize];
         let next = Next {
             me,
@@ -216,7 +216,7 @@ impl RingPort {
         let me = self.me as u64;
         let got = self.gots[src as usize];
         let room = self.fabric.room();
-        let lane = src as u64 * self.fabric.peers() + me;
+        let lane = me * self.fabric.peers() + src as u64;
         let cell = self.got_cells[src as usize];
         let next = Oldest {
             me,

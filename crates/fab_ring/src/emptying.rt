@@ -103,7 +103,7 @@ fn empty_lane(
         mut frames,
         mut spares,
     } = inside;
-    let lane = source * fabric.peers() + reader;
+    let lane = reader * fabric.peers() + source;
     let room = fabric.room();
     while let Some(spare) = spares.pop() {
         let next = Oldest {

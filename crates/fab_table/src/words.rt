@@ -29,7 +29,7 @@ impl LaneTable {
         ensures word { result ≡ put_word (lane_of self.now.peers src dest) }
         ensures inside { result < self.now.table.shared.table_id.words }
     {
-        ((src * self.peers + dest) * LANE) as usize
+        ((dest * self.peers + src) * LANE) as usize
     }
 
     /// The word that counts the frames taken of a lane.
@@ -38,7 +38,7 @@ impl LaneTable {
         ensures word { result ≡ got_word (lane_of self.now.peers src dest) }
         ensures inside { result < self.now.table.shared.table_id.words }
     {
-        ((src * self.peers + dest) * LANE + APART) as usize
+        ((dest * self.peers + src) * LANE + APART) as usize
     }
 
     /// The word of a lane that nobody writes: it stays in the sender's cache.
@@ -47,7 +47,7 @@ impl LaneTable {
         ensures word { result ≡ still_word (lane_of self.now.peers src dest) }
         ensures inside { result < self.now.table.shared.table_id.words }
     {
-        ((src * self.peers + dest) * LANE + STILL) as usize
+        ((dest * self.peers + src) * LANE + STILL) as usize
     }
 
     /// The word of a slot, among those of all pools.

@@ -28,13 +28,13 @@ pub overflow_add-next : goal.overflow_add-next
 overflow_add-next c = let q = c.seek.new.self in let f = arc_value q.fabric in let s : ℕ = c.args.src in let m : Sat = q.seat.seat.me in let p : Part = part_at m.0 0 in let near : s < f.peers = subst (λ t. s < t.peers) (sym c.seek.ensures.port.0) c.requires in
     let got = got_len _ _ _ _ _ _ _ _ _ _ _ _ q.fits s c.index-got.result.now near c.index-got.ensures in let cell = got_cell _ _ _ _ _ _ q.rounds s c.index-got.result.now c.index-cell.result.now near (got ∙ sym (q.fits.each_got s near).0) c.index-cell.ensures in
     let peers : c.peers.result ≡ f.peers = c.peers.ensures ∙ ap (λ t. t.peers) c.deref-2.ensures in let rooms : c.room-room.result ≡ f.room = c.room-room.ensures ∙ ap (λ t. t.room) c.deref.ensures in
-    record { fits = subst (λ (z : ℕ × ℕ × ℕ). (s * z.0 + q.me) * z.1 + z.2 < 18446744073709551616) (λ i. (sym peers i, sym rooms i, sym cell i)) (cell_small f.peers f.room s q.me (c.index-got.result.now % f.room) f.sized.6 f.sized.4 near q.fits.below (mod-lt c.index-got.result.now f.sized.3)) }
+    record { fits = subst (λ (z : ℕ × ℕ × ℕ). (q.me * z.0 + s) * z.1 + z.2 < 18446744073709551616) (λ i. (sym peers i, sym rooms i, sym cell i)) (cell_small f.peers f.room q.me s (c.index-got.result.now % f.room) f.sized.6 f.sized.4 q.fits.below near (mod-lt c.index-got.result.now f.sized.3)) }
 
 pub open_next-found-requires-clause-place : goal.open_next-found-requires-clause-place
 open_next-found-requires-clause-place c = let q = c.seek.new.self in let f = arc_value q.fabric in let s : ℕ = c.args.src in let m : Sat = q.seat.seat.me in let p : Part = part_at m.0 0 in let near : s < f.peers = subst (λ t. s < t.peers) (sym c.seek.ensures.port.0) c.requires in
     let got = got_len _ _ _ _ _ _ _ _ _ _ _ _ q.fits s c.index-got.result.now near c.index-got.ensures in let cell = got_cell _ _ _ _ _ _ q.rounds s c.index-got.result.now c.index-cell.result.now near (got ∙ sym (q.fits.each_got s near).0) c.index-cell.ensures in
     let peers : c.peers.result ≡ p.peers = c.peers.ensures ∙ ap (λ t. t.peers) c.deref-2.ensures ∙ sym q.fits.peers_is in let rooms : c.room-room.result ≡ p.room = c.room-room.ensures ∙ ap (λ t. t.room) c.deref.ensures ∙ sym q.fits.room_is in
-    λ i. (s * peers i + sym q.fits.me_is i) * rooms i + (cell ∙ (λ j. got j % sym q.fits.room_is j)) i
+    λ i. (sym q.fits.me_is i * peers i + s) * rooms i + (cell ∙ (λ j. got j % sym q.fits.room_is j)) i
 
 pub invariant_of-self-in-Empty : goal.invariant_of-self-in-Empty
 invariant_of-self-in-Empty c = let q = c.seek.new.self in let P = c.args.self.now in let f = arc_value q.fabric in let s : ℕ = c.args.src in let m : Sat = q.seat.seat.me in let p : Part = part_at m.0 0 in let u : In = in_at p s in

@@ -73,7 +73,7 @@ send_next-requires-clause-place c = let q = c.args.self.now in let f = arc_value
     let few : greatest 0 p.moves < most = (let t = c.if-self-ge-MOST.false in let e = q.fits.clock_is in omega arith) in let took = saw.3 space few in let o₁ : Out = saw_room o r in let v₁ : View = new_out_view m.0 0 d o₁ in
     let all_peers : c.peers.result ≡ p.peers = c.peers.ensures ∙ ap (λ t. t.peers) c.deref-3.ensures ∙ sym q.fits.peers_is in
     let rooms : c.room-room.result ≡ f.room = c.room-room.ensures ∙ ap (λ t. t.room) c.deref-2.ensures in let cell : c.index-cell.result.now ≡ c.index-put.result.now % f.room = put_cell _ _ _ _ _ _ q.rounds d c.index-put.result.now c.index-cell.result.now low (put ∙ sym mine.0) c.index-cell.ensures in
-    (λ i. (sym q.fits.me_is i * all_peers i + d) * wide i + (cell ∙ (λ j. put j % sym q.fits.room_is j)) i) ∙ sym (next_over m.0 d q.at.1 inside o₁ refl) ∙ ap (λ (z : Sat). next_cell z.0 0 d) (sym took.1)
+    (λ i. (d * all_peers i + sym q.fits.me_is i) * wide i + (cell ∙ (λ j. put j % sym q.fits.room_is j)) i) ∙ sym (next_over m.0 d q.at.1 inside o₁ refl) ∙ ap (λ (z : Sat). next_cell z.0 0 d) (sym took.1)
 
 pub overflow_add-next-2 : goal.overflow_add-next-2
 overflow_add-next-2 c = let q = c.args.self.now in let f = arc_value q.fabric in let d : ℕ = c.args.dest in let m : Sat = q.seat.seat.me in let p : Part = part_at m.0 0 in let o : Out = out_at p d in let low : d < f.peers = c.requires.below in let inside : d < length p.outs = subst (λ (z : ℕ). d < z) (sym q.fits.all_outs) low in
@@ -82,7 +82,14 @@ overflow_add-next-2 c = let q = c.args.self.now in let f = arc_value q.fabric in
     let few : greatest 0 p.moves < most = (let t = c.if-self-ge-MOST.false in let e = q.fits.clock_is in omega arith) in let took = saw.3 space few in let o₁ : Out = saw_room o r in let v₁ : View = new_out_view m.0 0 d o₁ in
     let rooms : c.room-room.result ≡ f.room = c.room-room.ensures ∙ ap (λ t. t.room) c.deref-2.ensures in let cell : c.index-cell.result.now ≡ c.index-put.result.now % f.room = put_cell _ _ _ _ _ _ q.rounds d c.index-put.result.now c.index-cell.result.now low (put ∙ sym mine.0) c.index-cell.ensures in
     let peers : c.peers.result ≡ f.peers = c.peers.ensures ∙ ap (λ t. t.peers) c.deref-3.ensures in
-    record { fits = subst (λ (z : ℕ × ℕ × ℕ). (q.me * z.0 + d) * z.1 + z.2 < 18446744073709551616) (λ i. (sym peers i, sym rooms i, sym cell i)) (cell_small f.peers f.room q.me d (c.index-put.result.now % f.room) f.sized.6 f.sized.4 q.fits.below low (mod-lt c.index-put.result.now f.sized.3)) }
+    record { fits = subst (λ (z : ℕ × ℕ × ℕ). (d * z.0 + q.me) * z.1 + z.2 < 18446744073709551616) (λ i. (sym peers i, sym rooms i, sym cell i)) (cell_small f.peers f.room d q.me (c.index-put.result.now % f.room) f.sized.6 f.sized.4 low q.fits.below (mod-lt c.index-put.result.now f.sized.3)) }
+
+pub send_next-requires-clause-sized : goal.send_next-requires-clause-sized
+send_next-requires-clause-sized c = let q = c.args.self.now in let f = arc_value q.fabric in let d : ℕ = c.args.dest in let m : Sat = q.seat.seat.me in let p : Part = part_at m.0 0 in let o : Out = out_at p d in let low : d < f.peers = c.requires.below in let inside : d < length p.outs = subst (λ (z : ℕ). d < z) (sym q.fits.all_outs) low in
+    let saw = c.hold_next-got.ensures.view in let r : ℕ = c.hold_next-got.result in let put = put_len _ _ _ _ _ _ _ _ _ _ _ _ q.fits d c.index-put.result.now low c.index-put.ensures in let wide : c.room-room.result ≡ p.room = c.room-room.ensures ∙ ap (λ t. t.room) c.deref-2.ensures ∙ sym q.fits.room_is in
+    let mine = q.fits.each_put d low in let space : length o.posted < r + p.room = (let le = saw.0 in let t = c.if-put-got.false in omega arith) in
+    let few : greatest 0 p.moves < most = (let t = c.if-self-ge-MOST.false in let e = q.fits.clock_is in omega arith) in let took = saw.3 space few in let o₁ : Out = saw_room o r in
+    ap (λ (z : Sat). length (out_at (part_at z.0 0) d).tried) took.1 ∙ ap (λ (z : Out). length z.tried) (here_out m.0 d q.at.1 inside o₁) ∙ mine.4 ∙ ap (λ t. t.pool) (sym c.deref-4.ensures)
 
 pub send_next-requires-clause-alone : goal.send_next-requires-clause-alone
 send_next-requires-clause-alone c = let q = c.args.self.now in let f = arc_value q.fabric in let d : ℕ = c.args.dest in let m : Sat = q.seat.seat.me in let p : Part = part_at m.0 0 in let o : Out = out_at p d in let low : d < f.peers = c.requires.below in let inside : d < length p.outs = subst (λ (z : ℕ). d < z) (sym q.fits.all_outs) low in
