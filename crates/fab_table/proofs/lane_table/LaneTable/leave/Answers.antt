@@ -1,4 +1,4 @@
-use Rattle.std.proofs.Common.{rules, ◌≡◌, ℕ, ◌+◌, ◌*◌, ◌<◌, sym, ap, ◌∙◌, subst}
+use Rattle.std.proofs.Common.{rules, ◌≡◌, ℕ, ◌<◌, sym, ap, ◌∙◌, subst}
 use Rattle.fab_table.specs.Views.{part_at, lane_of, got_word}
 use Rattle.fab_table.specs.Plays.{out_lane}
 use Rattle.fab_table.proofs.Sending.{leaves_one}
