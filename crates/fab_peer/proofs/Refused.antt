@@ -40,7 +40,7 @@ skips_progress fixed source a d l peer below stays free few room = by_stop l.mov
         omega (arith, all, taken, posted, few)
     by_stop StoppedCqFull is back = elim (back.empty source within) [
       | inl saw ↦ unseen saw
-      | inr lent ↦ (let none = ap (λ (x : Lanes _). (x.ins source).lent) end ∙ free in let some = lent.1.0 in cc)
+      | inr lent ↦ (let none = ap (λ (x : Lanes _). (x.ins source).lent) end ∙ free in let some = lent.1 in cc)
     ]
     by_stop StoppedLogFull is short =
         let log : length l.near.log ≡ length (events l.progressed.acts) = ap length (l.progressed.went.log ∙ ap (λ xs. xs ++ events l.progressed.acts) l.log) in
