@@ -7,8 +7,9 @@
 //! opened with sleeping, while nobody sleeps. `endpoint_bench soak` sends 1,000,000 messages of 64 bytes one way, and
 //! `endpoint_bench soak NUMBER` so many, in whole windows of 16; they are for whoever looks at the memory that this takes.
 //! `endpoint_bench alone` has both endpoints in one thread, and prints what it costs to put a message, to take one, and to look for
-//! one in vain, for 1, 64 and 4,096 bytes. Behind `bench`, `bench touched` and `alone` three numbers may stand, `32 0 31`: how many peers are open, and which
-//! two of them speak, the lower one first; the others are silent. `endpoint_bench` without a word makes one run of each exchange and prints no time.
+//! one in vain, for 1, 64 and 4,096 bytes. Behind `bench`, `bench touched`, `sleeping`, `soak NUMBER` and `alone` three numbers may
+//! stand, `32 0 31`: how many peers are open, 2 to 64, and which two of them speak, the lower one first; the others are silent.
+//! `endpoint_bench` without a word makes one run of each exchange and prints no time.
 #![tactic(auto)]
 
 mod measuring;
@@ -34,7 +35,7 @@ const SOAKED: u64 = 1_000_000;
 enum Asked {
     Nothing,
     Bench { is_touched: bool, peers: Peers },
-    Soak(u64),
+    Soak { messages: u64, peers: Peers },
     Alone { peers: Peers },
 }
 
@@ -51,10 +52,13 @@ fn read_words(rt: &HostRuntime) -> io::Result<Asked> {
             is_touched: false,
             peers: Peers {
                 sleeping: true,
-                ..TWO
+                ..peers_of(words.next(), words.next(), words.next())
             },
         }),
-        "soak" => Ok(Asked::Soak(number(words.next()))),
+        "soak" => Ok(Asked::Soak {
+            messages: number(words.next()),
+            peers: peers_of(words.next(), words.next(), words.next()),
+        }),
         "alone" => Ok(Asked::Alone {
             peers: peers_of(words.next(), words.next(), words.next()),
         }),
@@ -123,12 +127,12 @@ fn main(rt: HostRuntime) -> io::Result<()> {
             let all = all_times(&rt, rt.alloc(), RUNS, is_touched, peers)?;
             print_table(&rt, all)
         }
-        Asked::Soak(messages) => {
+        Asked::Soak { messages, peers } => {
             let measure = Measure {
                 exchange: soak(messages),
                 runs: 0,
                 is_touched: false,
-                peers: TWO,
+                peers,
             };
             let _times = times(&rt, rt.alloc(), &measure)?;
             println!(rt; "{messages} messages")

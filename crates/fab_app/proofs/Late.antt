@@ -47,7 +47,7 @@ full_by (Err Avail) late = absurd (cc)
 
 module _ {Home : Type 0} where
   pub drew_none : (e : Seen Home) → Drew e e
-  drew_none e = record { acts = []; draws = refl; goes = refl; size = refl; pushed = refl; lanes = refl }
+  drew_none e = record { acts = []; draws = refl; goes = refl; size = refl; pushed = refl; lanes = refl; next = refl }
 
   some : (call : Call) (e new : Seen Home) (n : ℕ) → IsOpen e → e.log ≡ [] → (r : ReceivesNot call e new (Again (LogFull n))) → 0 < length r.acts
   some call e new n opened none r = by r.acts r.went.log r.judged.1
@@ -77,6 +77,7 @@ module _ {Home : Type 0} where
           size = r.went.size ∙ ap (λ (x : Seen Home). x.log_size) is ∙ drew.size;
           pushed = r.pushed ∙ ap (λ (x : Seen Home). x.pushed) is ∙ drew.pushed;
           lanes = r.lanes ∙ ap (λ (x : Seen Home). x.lanes) is ∙ drew.lanes;
+          next = r.next ∙ ap (λ (x : Seen Home). x.next) is ∙ drew.next;
         },
         omega (arith, more, less),
       )

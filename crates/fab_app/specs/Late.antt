@@ -27,6 +27,7 @@ pub record Drew {Home : Type 0} (old new : Seen Home) : Type 0 where
   pub size : new.log_size ≡ old.log_size
   pub pushed : new.pushed ≡ old.pushed
   pub lanes : new.lanes ≡ old.lanes
+  pub next : new.next ≡ old.next
 
 -- draws for which the log had no room in one go, and then the call
 pub record ReceivesLate {Home : Type 0} (call : Call) (old new : Seen Home) : Type 0 where

@@ -22,4 +22,5 @@ ring_seen e = record {
     in_list = λ s. None;
     moves = Some (moves_of e.port);
   };
+  next = e.next;
 }

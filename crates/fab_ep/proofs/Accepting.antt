@@ -140,8 +140,8 @@ module _ {Home : Type 0} where
       let to : goes.0 ≡ e.held = goes.2 in
       subst (λ (x : Held). IsOnly x t) to (only_one m.held goes.0 t free.listed (joins m.held.state goes.0.state o free.fenced does.0) free.free)
 
-  pub sends_out : (fixed : Bool) (o : Order) (a m e b : Seen Home) (dest t : ℕ) → Admits (Transmit o) a m → IsFree m dest t → Went (Some (Transmit o)) m e (Did ∷ []) → e.pushed ≡ m.pushed → e.lanes.ins ≡ m.lanes.ins → LetsOut fixed e b t → b.lanes.ins ≡ e.lanes.ins → Sends fixed (Transmit o) dest a b
-  sends_out fixed o a m e b dest t admits free did same still out ins =
+  pub sends_out : (fixed : Bool) (o : Order) (a m e b : Seen Home) (dest t : ℕ) → Admits (Transmit o) a m → IsFree m dest t → Went (Some (Transmit o)) m e (Did ∷ []) → e.pushed ≡ m.pushed → e.lanes.ins ≡ m.lanes.ins → e.next ≡ m.next → LetsOut fixed e b t → b.lanes.ins ≡ e.lanes.ins → b.next ≡ e.next → Sends fixed (Transmit o) dest a b
+  sends_out fixed o a m e b dest t admits free did same still stays out ins next =
       let call = Transmit o in
       let before = went_as (Some call) a m admits.acts admits.push admits.went in
       let after = went_as (Some call) e b out.acts out.posts out.went in
@@ -171,10 +171,11 @@ module _ {Home : Type 0} where
             rw is (elim held [ inl full ↦ inl (full_by a.lanes e.lanes b.lanes (admits.acts ++ Did ∷ []) t till.ported full) | inr rest ↦ inr rest ]));
         behind = λ k at some. absurd (some (subst (λ x. next_frame m.held x ≡ None) (sym (peer k at)) (none_next m.held t free.free)));
         ins = ins ∙ still ∙ admits.ins;
+        next = next ∙ stays ∙ admits.next;
       }
 
-  pub sends_later : (fixed : Bool) (o : Order) (a m e : Seen Home) (dest : ℕ) → Admits (Transmit o) a m → ((t : ℕ) → lookup m.held.state.av dest ≡ Some t → next_item m.held.state t ≢ None) → Went (Some (Transmit o)) m e (Did ∷ []) → e.pushed ≡ m.pushed → e.lanes.ins ≡ m.lanes.ins → Sends fixed (Transmit o) dest a e
-  sends_later fixed o a m e dest admits waits did same still =
+  pub sends_later : (fixed : Bool) (o : Order) (a m e : Seen Home) (dest : ℕ) → Admits (Transmit o) a m → ((t : ℕ) → lookup m.held.state.av dest ≡ Some t → next_item m.held.state t ≢ None) → Went (Some (Transmit o)) m e (Did ∷ []) → e.pushed ≡ m.pushed → e.lanes.ins ≡ m.lanes.ins → e.next ≡ m.next → Sends fixed (Transmit o) dest a e
+  sends_later fixed o a m e dest admits waits did same still stays =
       let call = Transmit o in
       let before = went_as (Some call) a m admits.acts admits.push admits.went in
       let keep = posts_keep None admits.acts a.held m.held admits.push (let went = admits.went in went.goes) in
@@ -196,6 +197,7 @@ module _ {Home : Type 0} where
         goes_out = λ k at none f next. absurd (waits k (ap (λ av. lookup av dest) keep.av ∙ at) (none_item m.held k none));
         behind = λ k at some. refl;
         ins = still ∙ admits.ins;
+        next = stays ∙ admits.next;
       }
     where
       or_none : (b : Bool) → (b || false) ≡ b

@@ -149,6 +149,7 @@ module _ {Home : Type 0} where
         short = λ s. refl;
         place = λ places. places;
         ins = refl;
+        next = refl;
         still = λ e. refl;
         memory = λ lacks. absurd (early_not why early lacks);
         only_if_full = λ some. absurd (some refl);
@@ -166,6 +167,7 @@ module _ {Home : Type 0} where
     short = λ s. refl;
     place = λ places. places;
     ins = refl;
+    next = refl;
     still = λ e. refl;
     memory = λ lacks. absurd (cc);
     only_if_full = λ some. absurd (some refl);
@@ -183,14 +185,15 @@ module _ {Home : Type 0} where
     only_if_full = λ some. absurd (some refl);
     tried = λ full. absurd (not_full _ _ room full);
     ins = refl;
+    next = refl;
     granted = granted;
     room = room;
   }
 
   -- after the push
   pub unable : (fixed : Bool) (a b : Seen Home) (o : Order) → HasPlaces a → is_final (do_call a.held.state (Transmit o)).0 ≡ false → nat_le a.held.state.most_tx (in_use a.held.state.tx) ≡ true
-      → fixed ≢ true → Pushed (unpushed a) b false → HasPlaces b → b.lanes.ins ≡ a.lanes.ins → SendsNot fixed (Transmit o) a b LacksMemory
-  unable fixed a b o places granted full free push left ins = record {
+      → fixed ≢ true → Pushed (unpushed a) b false → HasPlaces b → b.lanes.ins ≡ a.lanes.ins → b.next ≡ a.next → SendsNot fixed (Transmit o) a b LacksMemory
+  unable fixed a b o places granted full free push left ins next = record {
     acts = push.acts;
     push = push.push;
     went = from_flag (Some (Transmit o)) a b push.acts (went_as (Some (Transmit o)) (unpushed a) b push.acts push.push push.went);
@@ -200,6 +203,7 @@ module _ {Home : Type 0} where
     short = λ s. absurd (omega (arith, s, places));
     place = λ had. left;
     ins = ins;
+    next = next;
     still = λ e. elim e [ inl early ↦ absurd (cc) | inr s ↦ absurd (omega (arith, s, places)) ];
     memory = λ lacks. (not_true fixed free, is_full_by _ _ full);
     only_if_full = λ some. is_full_by _ _ full;
@@ -208,13 +212,13 @@ module _ {Home : Type 0} where
 
   -- by the answer of the push
   pub unable_as : (fixed : Bool) (a b : Seen Home) (o : Order) (r : Result (Unit {0}) NoMemory) → HasPlaces a → is_final (do_call a.held.state (Transmit o)).0 ≡ false → nat_le a.held.state.most_tx (in_use a.held.state.tx) ≡ true
-      → ((u : Unit {0}) → r ≢ Ok u) → OnErr r (fixed ≢ true) → Pushes (unpushed a) b r → HasPlaces b → b.lanes.ins ≡ a.lanes.ins → SendsNot fixed (Transmit o) a b LacksMemory
-  unable_as fixed a b o (Ok u) places granted full other free push left ins = absurd (other u refl)
-  unable_as fixed a b o (Err why) places granted full other free push left ins = unable fixed a b o places granted full free push left ins
+      → ((u : Unit {0}) → r ≢ Ok u) → OnErr r (fixed ≢ true) → Pushes (unpushed a) b r → HasPlaces b → b.lanes.ins ≡ a.lanes.ins → b.next ≡ a.next → SendsNot fixed (Transmit o) a b LacksMemory
+  unable_as fixed a b o (Ok u) places granted full other free push left ins next = absurd (other u refl)
+  unable_as fixed a b o (Err why) places granted full other free push left ins next = unable fixed a b o places granted full free push left ins next
 
   pub still_full : (fixed : Bool) (a b : Seen Home) (o : Order) (most : ℕ) → most ≡ a.held.state.most_tx → HasPlaces a → is_final (do_call a.held.state (Transmit o)).0 ≡ false → nat_le a.held.state.most_tx (in_use a.held.state.tx) ≡ true
-      → Pushed (unpushed a) b true → HasPlaces b → b.lanes.ins ≡ a.lanes.ins → nat_le b.held.state.most_tx (in_use b.held.state.tx) ≡ true → SendsNot fixed (Transmit o) a b (Again (TxFull most))
-  still_full fixed a b o most is_most places granted full push left ins then_full =
+      → Pushed (unpushed a) b true → HasPlaces b → b.lanes.ins ≡ a.lanes.ins → b.next ≡ a.next → nat_le b.held.state.most_tx (in_use b.held.state.tx) ≡ true → SendsNot fixed (Transmit o) a b (Again (TxFull most))
+  still_full fixed a b o most is_most places granted full push left ins next then_full =
       let went = push.went in
       let granted_then = still_final o push.acts a.held b.held push.push went.goes ∙ granted in
       let same = posts_keep None push.acts a.held b.held push.push went.goes in
@@ -228,6 +232,7 @@ module _ {Home : Type 0} where
         short = λ s. absurd (omega (arith, s, places));
         place = λ had. left;
         ins = ins;
+        next = next;
         still = λ e. elim e [ inl early ↦ absurd (cc) | inr s ↦ absurd (omega (arith, s, places)) ];
         memory = λ lacks. absurd (cc);
         only_if_full = λ some. is_full_by _ _ full;
@@ -235,8 +240,8 @@ module _ {Home : Type 0} where
       }
 
   pub admitted : (a b : Seen Home) (o : Order) → HasPlaces a → HasPlaces b → is_final (do_call a.held.state (Transmit o)).0 ≡ false → nat_le a.held.state.most_tx (in_use a.held.state.tx) ≡ true
-      → Pushed (unpushed a) b true → b.lanes.ins ≡ a.lanes.ins → nat_le b.held.state.most_tx (in_use b.held.state.tx) ≡ false → Admits (Transmit o) a b
-  admitted a b o places left granted full push ins room = record {
+      → Pushed (unpushed a) b true → b.lanes.ins ≡ a.lanes.ins → b.next ≡ a.next → nat_le b.held.state.most_tx (in_use b.held.state.tx) ≡ false → Admits (Transmit o) a b
+  admitted a b o places left granted full push ins next room = record {
     acts = push.acts;
     push = push.push;
     went = from_flag None a b push.acts push.went;
@@ -246,6 +251,7 @@ module _ {Home : Type 0} where
     only_if_full = λ some. is_full_by _ _ full;
     tried = λ is d below. push.tried refl d below;
     ins = ins;
+    next = next;
     granted = still_final o push.acts a.held b.held push.push (let went = push.went in went.goes) ∙ granted;
     room = room;
   }

@@ -138,6 +138,7 @@ module _ {Home : Type 0} where
         draws = refl;
         went = went_none (Some call) a a refl refl refl (ported_same a.lanes a.lanes refl);
         pushed = refl;
+        next = refl;
         lanes = refl;
         judged = judged_as call a a (Crowded a a) why answered (λ crowded passing. absurd (early_last why early passing)) is;
         early = λ e. refl;
@@ -161,6 +162,7 @@ module _ {Home : Type 0} where
         draws = d.draws;
         went = went_draws (Some call) a b d;
         pushed = d.pushed;
+        next = d.next;
         lanes = d.lanes;
         judged = judged_as call a b (Crowded a b) why answered (λ crowded passing. elim room [ inl last ↦ absurd (cc) | inr free ↦ free crowded ]) is;
         early = λ e. absurd (cc);
@@ -183,6 +185,7 @@ module _ {Home : Type 0} where
         draws = d.draws;
         went = went_draws (Some call) a b d;
         pushed = d.pushed;
+        next = d.next;
         lanes = d.lanes;
         judged = (refl, crowded, granted);
         early = λ e. absurd (cc);
@@ -234,6 +237,7 @@ module _ {Home : Type 0} where
         then_draws = e.draws;
         went = went_then (Some call) a b c d.acts (Did ∷ e.acts) (went_draws (Some call) a b d) (went_then (Some call) b mid c (Did ∷ []) e.acts (went_received call b h does) (went_draws (Some call) mid c e));
         pushed = e.pushed ∙ d.pushed;
+        next = e.next ∙ d.next;
         lanes = e.lanes ∙ d.lanes;
         places = places;
         place = elim e.room [ inl none ↦ inl none | inr room ↦ inr (e.place room) ];

@@ -1,32 +1,17 @@
--- Lanes in their circle: where each stands, and how far ahead it is.
-use Rattle.std.proofs.Common.{◌≡◌, ◌≢◌, ◌<◌, ◌≤◌, ◌+◌, ◌-◌, ◌⊎◌, inl, inr, ℕ, Bool, true, false, refl, sym, ap, ◌∙◌, subst, arith}
-use Rattle.std.specs.Prelude.{nat_le}
+-- Lanes in their circle: where each stands, one behind another.
+use Rattle.std.proofs.Common.{◌≡◌, ◌<◌, ◌≤◌, ◌+◌, inl, inr, ℕ, sym, ap, subst, arith}
 use Rattle.std.proofs.lemmas.Bool.{cases_eq}
-use Rattle.std.proofs.lemmas.Bool.Decides.{nat_tests}
-use Rattle.fab_ep.specs.declared.lanes.Lane.{Lane}
-use Rattle.fab_ep.specs.declared.lanes.Lane.TheVariants.{To, From}
-use Rattle.fab_ep.specs.Circle.{Follows, InCircle, IsOf, StandsAt, ahead, ahead_by, number, round}
-
-number_below : (peers : ℕ) (l : Lane) → IsOf peers l → number l < round peers
-number_below peers (To d) below = omega (arith, below)
-number_below peers (From s) below = omega (arith, below)
+use Rattle.fab_face.specs.declared.lanes.Lane.{Lane}
+use Rattle.fab_face.specs.declared.lanes.Lane.TheVariants.{To, From}
+use Rattle.fab_face.specs.Circle.{IsOf, ahead, number, round}
+use Rattle.fab_face.proofs.Circle.{AheadAs, ahead_as, number_below}
+use Rattle.fab_ep.specs.Circle.{Follows, InCircle, StandsAt}
 
 number_is : (l m : Lane) → number l ≡ number m → l ≡ m
 number_is (To d) (To e) same = (let is : d ≡ e = omega (arith, same) in ap To is)
 number_is (To d) (From t) same = absurd (omega (arith, same))
 number_is (From s) (To e) same = absurd (omega (arith, same))
 number_is (From s) (From t) same = (let is : s ≡ t = omega (arith, same) in ap From is)
-
--- how far ahead a lane is, by its number
-abbrev AheadAs : ℕ → Lane → Lane → ℕ → Type 0
-AheadAs peers next l n = ((number next ≤ number l) × (n ≡ number l - number next)) ⊎ ((number l < number next) × (n ≡ number l + round peers - number next))
-
-ahead_as : (peers : ℕ) (next l : Lane) → AheadAs peers next l (ahead peers next l)
-ahead_as peers next l = by (nat_le (number next) (number l)) refl
-  where
-    by : (b : Bool) → nat_le (number next) (number l) ≡ b → AheadAs peers next l (ahead_by b (round peers) (number next) (number l))
-    by true is = inl (grind (arith, nat_tests, is), refl)
-    by false is = inr (grind (arith, nat_tests, is), refl)
 
 -- ---- one lane behind another
 
@@ -68,16 +53,6 @@ ahead_here peers from l n is_from is_l below at = by (ahead peers from l) (ahead
     by k (inl (le, is)) (inr at) = absurd (omega (arith, le, at, below, few, few_l))
     by k (inr (lt, is)) (inl at) = absurd (omega (arith, lt, at))
     by k (inr (lt, is)) (inr at) = omega (arith, lt, is, at, few)
-
-pub ahead_below : (peers : ℕ) (from l : Lane) → IsOf peers l → ahead peers from l < round peers
-ahead_below peers from l is_l = by (ahead peers from l) (ahead_as peers from l)
-  where
-    few_l : number l < round peers
-    few_l = number_below peers l is_l
-
-    by : (k : ℕ) → AheadAs peers from l k → k < round peers
-    by k (inl (le, is)) = omega (arith, le, is, few_l)
-    by k (inr (lt, is)) = omega (arith, lt, is, few_l)
 
 -- only one lane is so far ahead
 pub ahead_one : (peers : ℕ) (from l m : Lane) → IsOf peers from → IsOf peers l → IsOf peers m → ahead peers from l ≡ ahead peers from m → l ≡ m

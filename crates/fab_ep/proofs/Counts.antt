@@ -1,7 +1,7 @@
 -- How many acts of a kind there are, and counts that never fall.
-use Rattle.std.proofs.Common.{◌≡◌, ◌+◌, Bool, true, false, List, [], ◌∷◌, ◌++◌, refl, ap, ◌∙◌, cond}
+use Rattle.std.proofs.Common.{◌≡◌, ◌+◌, Bool, List, [], ◌∷◌, ◌++◌, refl, cond}
 use Rattle.std.specs.Prelude.{count_by}
-use Rattle.std.proofs.lemmas.List.Sums.{sum_by-append, sum_by_push}
+use Rattle.std.proofs.lemmas.List.Sums.{sum_by-append}
 use Rattle.fab_face.specs.Acts.{Act, Did, Took, Posted, Drew, Had, is_draw, is_post, is_take}
 use Rattle.fab_face.specs.Answers.{AllAre}
 

@@ -76,15 +76,16 @@ module _ {Home : Type 0} where
   -- ---- draws, one after another
 
   pub drawing_none : (a : Seen Home) → Drawing a a
-  drawing_none a = record { acts = []; draws = refl; went = went_none None a a refl refl refl (ported_same a.lanes a.lanes refl); pushed = refl; lanes = refl; room = inl refl; place = λ places. omega (arith, places) }
+  drawing_none a = record { acts = []; draws = refl; went = went_none None a a refl refl refl (ported_same a.lanes a.lanes refl); pushed = refl; lanes = refl; next = refl; room = inl refl; place = λ places. omega (arith, places) }
 
   pub drawing_on : (a e e1 : Seen Home) → Drawing a e → DrawsOne e e1 true → Drawing a e1
-  drawing_on a e e1 was (places, went, pushed, lanes) = record {
+  drawing_on a e e1 was (places, went, pushed, lanes, next) = record {
     acts = was.acts ++ Drew ∷ [];
     draws = list_all-append is_draw was.acts (Drew ∷ []) ∙ and_from _ _ was.draws refl;
     went = went_then None a e e1 was.acts (Drew ∷ []) was.went went;
     pushed = pushed ∙ was.pushed;
     lanes = lanes ∙ was.lanes;
+    next = next ∙ was.next;
     room = inr (had was.room);
     place = λ had_. (let l = ap length went.log ∙ length-append e.log (DrawEvent ∷ []) in let s = went.size in omega (arith, l, s, places));
   }

@@ -1,34 +1,34 @@
--- What each lane gets: laps of the circle, and calls one after another.
+-- What each lane gets: laps of the circle, one after another.
 use Rattle.std.proofs.Common.{◌≡◌, ◌≢◌, ◌<◌, ◌≤◌, ◌+◌, ◌⊎◌, inl, inr, ℕ, Bool, true, false, List, [], ◌∷◌, ◌++◌, length, length-append, append-nil, None, refl, sym, ap, ◌∙◌, subst, arith}
-use Rattle.std.specs.Prelude.{count_by, ◌==◌}
+use Rattle.std.specs.Prelude.{◌==◌}
 use Rattle.std.proofs.lemmas.Bool.{cases_eq, cases_lt}
 use Rattle.std.proofs.lemmas.Bool.Decides.{nat_tests}
 use Rattle.std.proofs.lemmas.Grind.{flat_map-append}
-use Rattle.std.proofs.lemmas.List.Sums.{sum_by-append}
-use Rattle.fab_base.specs.Counts.{Rose}
 use Rattle.fab_base.specs.declared.frames.Frame.{Frame}
 use Rattle.fab_base.proofs.Numbers.{rose_later as rose_on}
 use Rattle.fab_face.specs.Held.{Seen}
 use Rattle.fab_face.specs.Acts.{Act, Did, Took, Posted, Drew, Had, Went, is_draw, is_post, is_take, only, posted_by, taken_by}
-use Rattle.fab_face.specs.Answers.{AllAre, SawEmpty, SawFull}
+use Rattle.fab_face.specs.Answers.{AllAre, HadNone, HadTurn, HasNone, SawEmpty, SawFull, Serves, frames_in, frames_on}
+use Rattle.fab_face.specs.Circle.{IsOf, ahead, round}
+use Rattle.fab_face.proofs.Circle.{ahead_below}
 use Rattle.fab_face.proofs.Joining.{went_none, went_then, ported_same}
-use Rattle.fab_ep.specs.declared.lanes.Lane.{Lane}
-use Rattle.fab_ep.specs.declared.lanes.Lane.TheVariants.{To, From}
-use Rattle.fab_ep.specs.Circle.{Follows, InCircle, IsOf, StandsAt, ahead, round}
-use Rattle.fab_ep.specs.Fairness.{EachHasItsTurn, HadNone, HadTurn, HasNone, Lap, MayWant, OneGave, Poll, Polls, Serves, frames, frames_of, moved}
-use Rattle.fab_ep.proofs.Circle.{ahead_below, ahead_here, ahead_nearer, ahead_one, follows_of, round_back, some_of, stands_next, stands_none}
+use Rattle.fab_face.specs.declared.lanes.Lane.{Lane}
+use Rattle.fab_face.specs.declared.lanes.Lane.TheVariants.{To, From}
+use Rattle.fab_ep.specs.Circle.{Follows, InCircle, StandsAt}
+use Rattle.fab_ep.specs.Fairness.{Lap}
+use Rattle.fab_ep.proofs.Circle.{ahead_here, ahead_nearer, ahead_one, follows_of, round_back, some_of, stands_next, stands_none}
 use Rattle.fab_ep.proofs.Counts.{count_append, draws_none}
 
 -- ---- how many frames moved
 
-pub moved_append : (l : Lane) (xs ys : List Act) → moved l (xs ++ ys) ≡ moved l xs + moved l ys
+pub moved_append : (l : Lane) (xs ys : List Act) → frames_on l (xs ++ ys) ≡ frames_on l xs + frames_on l ys
 moved_append (To d) xs ys = ap length (flat_map-append (posted_by d) xs ys) ∙ length-append _ _
 moved_append (From s) xs ys = ap length (flat_map-append (taken_by s) xs ys) ∙ length-append _ _
 
-pub frames_append : (xs ys : List Act) → frames (xs ++ ys) ≡ frames xs + frames ys
+pub frames_append : (xs ys : List Act) → frames_in (xs ++ ys) ≡ frames_in xs + frames_in ys
 frames_append xs ys = (let t = count_append is_take xs ys in let p = count_append is_post xs ys in omega (arith, t, p))
 
-moved_draws : (l : Lane) (acts : List Act) → AllAre is_draw acts → moved l acts ≡ 0
+moved_draws : (l : Lane) (acts : List Act) → AllAre is_draw acts → frames_on l acts ≡ 0
 moved_draws (To d) [] are = refl
 moved_draws (From s) [] are = refl
 moved_draws l (Did ∷ acts) are = absurd (cc)
@@ -38,10 +38,10 @@ moved_draws (To d) (Drew ∷ acts) are = moved_draws (To d) acts are
 moved_draws (From s) (Drew ∷ acts) are = moved_draws (From s) acts are
 moved_draws l (Had ∷ acts) are = absurd (cc)
 
-frames_draws : (acts : List Act) → AllAre is_draw acts → frames acts ≡ 0
+frames_draws : (acts : List Act) → AllAre is_draw acts → frames_in acts ≡ 0
 frames_draws acts are = (let none = draws_none acts are in let t = none.0 in let p = none.1 in omega (arith, t, p))
 
-pub moved_nothing : (l : Lane) → moved l [] ≡ 0
+pub moved_nothing : (l : Lane) → frames_on l [] ≡ 0
 moved_nothing (To d) = refl
 moved_nothing (From s) = refl
 
@@ -49,17 +49,17 @@ only_length : {X : Type 0} (b c : Bool) (x : X) → b ≡ c → length (only b x
 only_length true c x is = rw (← is) refl
 only_length false c x is = rw (← is) refl
 
-pub moved_posted : (d : ℕ) (f : Frame) → moved (To d) (Posted d f ∷ []) ≡ 1
+pub moved_posted : (d : ℕ) (f : Frame) → frames_on (To d) (Posted d f ∷ []) ≡ 1
 moved_posted d f = only_length (d == d) true f (grind (arith, nat_tests))
 
-pub moved_took : (s : ℕ) (f : Frame) → moved (From s) (Took s f ∷ []) ≡ 1
+pub moved_took : (s : ℕ) (f : Frame) → frames_on (From s) (Took s f ∷ []) ≡ 1
 moved_took s f = only_length (s == s) true f (grind (arith, nat_tests))
 
-pub others_posted : (d : ℕ) (f : Frame) (l : Lane) → l ≢ To d → moved l (Posted d f ∷ []) ≡ 0
+pub others_posted : (d : ℕ) (f : Frame) (l : Lane) → l ≢ To d → frames_on l (Posted d f ∷ []) ≡ 0
 others_posted d f (To e) other = only_length (d == e) false f (let no : d ≢ e = λ same. other (ap To (sym same)) in grind (arith, nat_tests, no))
 others_posted d f (From s) other = refl
 
-pub others_took : (s : ℕ) (f : Frame) (l : Lane) → l ≢ From s → moved l (Took s f ∷ []) ≡ 0
+pub others_took : (s : ℕ) (f : Frame) (l : Lane) → l ≢ From s → frames_on l (Took s f ∷ []) ≡ 0
 others_took s f (To e) other = refl
 others_took s f (From t) other = only_length (s == t) false f (let no : s ≢ t = λ same. other (ap From (sym same)) in grind (arith, nat_tests, no))
 
@@ -123,7 +123,7 @@ module _ {Home : Type 0} where
 
   -- the lane that is next had its turn
   pub lap_on : (fixed failed : Bool) (peers : ℕ) (a e e1 : Seen Home) (from here next : Lane) (n : ℕ) (xs ys : List Act) → n < round peers
-      → Lap fixed false peers a e from here n xs → Follows peers here next → Went None e e1 ys → frames ys ≤ 1 → moved here ys ≤ 1 → ((l : Lane) → l ≢ here → moved l ys ≡ 0) → HadTurn fixed failed a e1 (xs ++ ys) here
+      → Lap fixed false peers a e from here n xs → Follows peers here next → Went None e e1 ys → frames_in ys ≤ 1 → frames_on here ys ≤ 1 → ((l : Lane) → l ≢ here → frames_on l ys ≡ 0) → HadTurn fixed failed a e1 (xs ++ ys) here
       → Lap fixed failed peers a e1 from next (n + 1) (xs ++ ys)
   lap_on fixed failed peers a e e1 from here next n xs ys below was follows went one own others turn = record {
     first = was.first;
@@ -160,8 +160,8 @@ module _ {Home : Type 0} where
       far : (l : Lane) → ahead peers from l ≢ n → l ≢ here
       far l other same = other (ap (λ x. ahead peers from x) same ∙ here_at)
 
-      at_here : (l : Lane) → IsOf peers l → ahead peers from l ≡ n → moved l ys ≤ 1
-      at_here l is_l same = subst (λ x. moved x ys ≤ 1) (sym (there l is_l same)) own
+      at_here : (l : Lane) → IsOf peers l → ahead peers from l ≡ n → frames_on l ys ≤ 1
+      at_here l is_l same = subst (λ x. frames_on x ys ≤ 1) (sym (there l is_l same)) own
 
   -- nothing moved, and it is the same lane's turn
   pub lap_still : (fixed : Bool) (peers : ℕ) (a e e1 : Seen Home) (from here : Lane) (n : ℕ) (xs : List Act) → Lap fixed false peers a e from here n xs → Went None e e1 [] → Lap fixed false peers a e1 from here n xs
@@ -196,9 +196,9 @@ module _ {Home : Type 0} where
 
   -- so many whole ones
   pub record Laps (peers : ℕ) (a e : Seen Home) (k : ℕ) (acts : List Act) : Type 0 where
-    pub most : (l : Lane) → IsOf peers l → moved l acts ≤ k
-    pub least : (l : Lane) → IsOf peers l → (k ≤ moved l acts) ⊎ HadNone a e l
-    pub first : k ≡ 0 → frames acts ≡ 0
+    pub most : (l : Lane) → IsOf peers l → frames_on l acts ≤ k
+    pub least : (l : Lane) → IsOf peers l → (k ≤ frames_on l acts) ⊎ HadNone a e l
+    pub first : k ≡ 0 → frames_in acts ≡ 0
 
   pub laps_none : (peers : ℕ) (a : Seen Home) → Laps peers a a 0 []
   laps_none peers a = record { most = λ l is. (let m = moved_nothing l in omega (arith, m)); least = λ l is. inl (omega arith); first = λ none. refl }
@@ -210,7 +210,7 @@ module _ {Home : Type 0} where
     first = λ none. absurd (omega (arith, none));
   }
     where
-      by : (l : Lane) → ((k ≤ moved l xs) ⊎ HadNone a b l) → HadTurn fixed false b e ys l → (k + 1 ≤ moved l (xs ++ ys)) ⊎ HadNone a e l
+      by : (l : Lane) → ((k ≤ frames_on l xs) ⊎ HadNone a b l) → HadTurn fixed false b e ys l → (k + 1 ≤ frames_on l (xs ++ ys)) ⊎ HadNone a e l
       by l (inr had) turn = inr (had_later a b e ys l had then_)
       by l (inl many) (inl some) = inl (let m = moved_append l xs ys in omega (arith, m, many, some))
       by l (inl many) (inr (inl had)) = inr (had_before a b e xs l went had)
@@ -220,9 +220,9 @@ module _ {Home : Type 0} where
   next_same fixed peers b e n from next ys lap all = round_back peers from next lap.first lap.is (subst (λ k. StandsAt peers from k next) all lap.at)
 
   -- whole laps, and the last one
-  pub serves_of : (fixed failed : Bool) (a b e : Seen Home) (k n : ℕ) (from next : Lane) (xs ys : List Act) → Laps a.lanes.peers a b k xs → Went None a b xs → Went None b e ys → Lap fixed failed a.lanes.peers b e from next n ys
-      → Serves fixed failed a e from next (xs ++ ys)
-  serves_of fixed failed a b e k n from next xs ys laps went then_ lap = record {
+  pub serves_of : (fixed failed : Bool) (a b e : Seen Home) (k n : ℕ) (xs ys : List Act) → Laps a.lanes.peers a b k xs → Went None a b xs → Went None b e ys → Lap fixed failed a.lanes.peers b e a.next e.next n ys
+      → Serves fixed failed a e (xs ++ ys)
+  serves_of fixed failed a b e k n xs ys laps went then_ lap = record {
     fair = λ l m is_l is_m. elim (laps.least l is_l) [
       | inl many ↦ inl (let x = moved_append m xs ys in let y = moved_append l xs ys in let o = lap.once m is_m in let w = laps.most m is_m in omega (arith, x, y, o, w, many))
       | inr had ↦ inr (had_later a b e ys l had then_)
@@ -239,63 +239,39 @@ module _ {Home : Type 0} where
       peers : ℕ
       peers = a.lanes.peers
 
-      first : (l : Lane) → IsOf peers l → frames xs ≡ 0 → HadTurn fixed failed a e (xs ++ ys) l ⊎ (frames (xs ++ ys) + ahead peers next l ≤ ahead peers from l)
-      first l is none = elim (cases_lt (ahead peers from l) n) [
+      first : (l : Lane) → IsOf peers l → frames_in xs ≡ 0 → HadTurn fixed failed a e (xs ++ ys) l ⊎ (frames_in (xs ++ ys) + ahead peers e.next l ≤ ahead peers a.next l)
+      first l is none = elim (cases_lt (ahead peers a.next l) n) [
         | inl near ↦ inl (turn_before fixed failed a b e xs ys l went (lap.had l is near))
         | inr far ↦ inr (
             let some = some_of peers l is in
             let f = frames_append xs ys in
             let few = lap.few in
-            let d = ahead_nearer peers from next l n (let first = lap.first in first some) (let is_next = lap.is in is_next some) is lap.at far in
+            let d = ahead_nearer peers a.next e.next l n (let first = lap.first in first some) (let is_next = lap.is in is_next some) is lap.at far in
             omega (arith, f, few, d, none))
       ]
 
   -- whole laps alone
-  pub serves_still : (fixed : Bool) (a b : Seen Home) (k : ℕ) (from : Lane) (xs : List Act) → Laps a.lanes.peers a b k xs → Serves fixed false a b from from xs
-  serves_still fixed a b k from xs laps = record {
+  pub serves_still : (fixed : Bool) (a b : Seen Home) (k : ℕ) (xs : List Act) → b.next ≡ a.next → Laps a.lanes.peers a b k xs → Serves fixed false a b xs
+  serves_still fixed a b k xs same laps = record {
     fair = λ l m is_l is_m. elim (laps.least l is_l) [
       | inl many ↦ inl (let w = laps.most m is_m in omega (arith, w, many))
       | inr had ↦ inr had
     ];
     nearer = λ l is. elim (cases_eq k 0) [
-      | inl none ↦ inr (let z = laps.first none in omega (arith, z))
+      | inl none ↦ inr (rw same (let z = laps.first none in omega (arith, z)))
       | inr some ↦ inl (elim (laps.least l is) [ inl many ↦ inl (omega (arith, many, some)) | inr had ↦ inr (inl had) ])
     ];
   }
 
   -- draws behind the last frame
-  pub serves_later : (fixed : Bool) (a b e : Seen Home) (from next : Lane) (xs ds : List Act) → Serves fixed false a b from next xs → AllAre is_draw ds → Went None b e ds → Serves fixed false a e from next (xs ++ ds)
-  serves_later fixed a b e from next xs ds was are went = record {
+  pub serves_later : (fixed : Bool) (a b e : Seen Home) (xs ds : List Act) → Serves fixed false a b xs → AllAre is_draw ds → Went None b e ds → e.next ≡ b.next → Serves fixed false a e (xs ++ ds)
+  serves_later fixed a b e xs ds was are went same = record {
     fair = λ l m is_l is_m. elim (was.fair l m is_l is_m) [
       | inl few ↦ inl (let x = moved_append m xs ds in let y = moved_append l xs ds in let z = moved_draws m ds are in omega (arith, x, y, z, few))
       | inr had ↦ inr (had_later a b e ds l had went)
     ];
     nearer = λ l is. elim (was.nearer l is) [
       | inl turn ↦ inl (turn_later fixed false a b e xs ds l turn went)
-      | inr near ↦ inr (let f = frames_append xs ds in let z = frames_draws ds are in omega (arith, f, z, near))
+      | inr near ↦ inr (rw same (let f = frames_append xs ds in let z = frames_draws ds are in omega (arith, f, z, near)))
     ];
   }
-
-  -- ---- calls, one after another
-
-  nearer_by : (fixed : Bool) (peers : ℕ) (from : Lane) (ps : List (Poll Home)) (l : Lane) → Polls fixed peers from ps → IsOf peers l → OneGave fixed l ps ⊎ (frames_of ps ≤ ahead peers from l)
-  nearer_by fixed peers from [] l polls is = inr (omega arith)
-  nearer_by fixed peers from (p ∷ ps) l (begins, same, serves, rest) is =
-      elim (serves.nearer l (rw same is)) [
-        | inl turn ↦ inl (inl turn)
-        | inr near ↦ elim (nearer_by fixed peers p.next ps l rest is) [
-          | inl one ↦ inl (inr one)
-          | inr few ↦ inr (
-              let n : frames p.acts + ahead peers p.next l ≤ ahead peers p.from l = rw same at near in
-              let m : frames p.acts + ahead peers p.next l ≤ ahead peers from l = rw begins at n in
-              let one : frames_of (p ∷ []) ≡ 0 + frames p.acts = refl in
-              let all : frames_of (p ∷ ps) ≡ frames_of (p ∷ []) + frames_of ps = sum_by-append (λ (x : Poll Home). frames x.acts) (p ∷ []) ps in
-              omega (arith, one, all, m, few))
-        ]
-      ]
-
-  pub each_has_its_turn : (fixed : Bool) → EachHasItsTurn Home fixed
-  each_has_its_turn fixed peers from ps l polls is many = elim (nearer_by fixed peers from ps l polls is) [
-    | inl one ↦ one
-    | inr few ↦ absurd (let below = ahead_below peers from l is in omega (arith, few, below, many))
-  ]

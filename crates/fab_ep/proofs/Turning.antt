@@ -12,20 +12,22 @@ use Rattle.fab_face.specs.declared.events.Stop.{Stop}
 use Rattle.fab_face.specs.declared.events.Stop.TheVariants.{Idle, Budget, CqFull as StoppedCqFull}
 use Rattle.fab_face.specs.Held.{Held, Lanes, Seen, next_frame}
 use Rattle.fab_face.specs.Acts.{Act, Took, Posted, Went, is_move, is_take, is_post}
-use Rattle.fab_face.specs.Answers.{AllAre, Begins, Drawn, HasPlaces, IsShort, MayLack, DrawLacks, LentLacks, NextLacks, FrameLacks, SentLacks, StopsAs}
+use Rattle.fab_face.specs.Answers.{AllAre, Begins, Drawn, HasNone, HasPlaces, IsShort, MayLack, MayWant, DrawLacks, LentLacks, NextLacks, FrameLacks, Progressed, SentLacks, Serves, StopsAs, frames_on}
+use Rattle.fab_face.specs.Circle.{IsOf, ahead, round}
+use Rattle.fab_face.proofs.Circle.{ahead_below}
 use Rattle.fab_face.proofs.Joining.{draws_move, went_none, went_then}
 use Rattle.fab_face.proofs.Joining.{ported_same}
-use Rattle.fab_ep.specs.declared.lanes.Lane.{Lane}
-use Rattle.fab_ep.specs.declared.lanes.Lane.TheVariants.{To, From}
+use Rattle.fab_face.specs.declared.lanes.Lane.{Lane}
+use Rattle.fab_face.specs.declared.lanes.Lane.TheVariants.{To, From}
 use Rattle.fab_ep.specs.declared.endpoint.Tried.{Tried}
 use Rattle.fab_ep.specs.declared.endpoint.Tried.TheVariants.{Moved, Nothing, Held as HeldBack, Short}
 use Rattle.fab_ep.specs.declared.endpoint.Turn.{Turn}
-use Rattle.fab_ep.specs.Circle.{Follows, InCircle, IsOf, ahead, round}
-use Rattle.fab_ep.specs.Fairness.{HasNone, Lap, MayWant, ProgressedFairly, Serves, moved}
+use Rattle.fab_ep.specs.Circle.{Follows, InCircle}
+use Rattle.fab_ep.specs.Fairness.{Lap}
 use Rattle.fab_ep.specs.Tries.{Calm, CalmOut, CalmIn, Tries, PassesOn, OutAt, InAt, LaneAt, Looked, Turning, WentRound, CutShort, Rounds, Quiet, TurnedOn, Turns, taken_on, posted_on, is_held, is_short}
 use Rattle.fab_ep.specs.Draws.{Drawing, Draws}
 use Rattle.fab_ep.proofs.Counts.{count_append, draws_none}
-use Rattle.fab_ep.proofs.Circle.{ahead_below, ahead_here, ahead_one}
+use Rattle.fab_ep.proofs.Circle.{ahead_here, ahead_one}
 use Rattle.fab_ep.proofs.Fairness.{Laps, empty_on, full_on, had_before, had_now, lap_drawn, lap_none, lap_of, lap_on, lap_still, laps_none, laps_on, moved_append, moved_nothing, moved_posted, moved_took, next_same, others_posted, others_took, serves_later, serves_of, serves_still}
 
 -- ---- lists of acts
@@ -113,7 +115,7 @@ module _ {Home : Type 0} where
       (was : Turning fixed a e taken posted held from here n) (follows : Follows a.lanes.peers here next) where
     -- a frame moved
     moved_on : (t p : ℕ) (act : Act) → is_move act ≡ true → Went None e e1 (act ∷ []) → count_by is_take (act ∷ []) ≡ t → count_by is_post (act ∷ []) ≡ p → t + p ≡ 1
-        → moved here (act ∷ []) ≡ 1 → ((l : Lane) → l ≢ here → moved l (act ∷ []) ≡ 0) → Turning fixed a e1 (taken + t) (posted + p) (held || false) from next (n + 1)
+        → frames_on here (act ∷ []) ≡ 1 → ((l : Lane) → l ≢ here → frames_on l (act ∷ []) ≡ 0) → Turning fixed a e1 (taken + t) (posted + p) (held || false) from next (n + 1)
     moved_on t p act is went takes posts one own others = record {
       acts = was.acts ++ act ∷ [];
       moves = all_append is_move was.acts (act ∷ []) was.moves (is_one act is);
@@ -446,46 +448,44 @@ module _ {Home : Type 0} where
   -- ---- the end of a call
 
   -- in the last turn memory lacked
-  pub progress_err : (fixed turned : Bool) (a b e : Seen Home) (budget taken posted left : ℕ) (from next : Lane) (why : NoMemory) → Going turned a b taken posted → taken + posted + left ≤ budget → Turns fixed left b e from next (Err why) → e.pushed ≡ a.pushed
-      → ProgressedFairly fixed budget a e from next (Err why)
-  progress_err fixed turned a b e budget taken posted left from next why was most (cut, begins) pushed = (
-    record {
-      acts = was.acts ++ cut.acts;
-      moves = all_append is_move was.acts cut.acts was.moves cut.moves;
-      went = went_then None a b e was.acts cut.acts was.went cut.went;
-      most = (let c = count_append is_take was.acts cut.acts in let d = count_append is_post was.acts cut.acts in let w = was.takes in let p = was.posts in let few = cut.few in omega (arith, c, d, w, p, few, most));
-      pushed = pushed;
-      begins = begun_then turned a b e was.acts cut.acts was.begun begins cut.went;
-      counted = (let c = count_append is_take was.acts cut.acts in let d = count_append is_post was.acts cut.acts in let w = was.takes in let p = was.posts in let few = cut.few in omega (arith, c, d, w, p, few, most));
-      lacks = λ why is. cut.lacks;
-    },
-    serves_of fixed true a b e was.each cut.lanes from next was.acts cut.acts was.laps was.went cut.went (lap_in fixed true turned a b e taken posted cut.lanes from next cut.acts was cut.lap),
-  )
+  pub progress_err : (fixed turned : Bool) (a b e : Seen Home) (budget taken posted left : ℕ) (why : NoMemory) → Going turned a b taken posted → taken + posted + left ≤ budget → Turns fixed left b e a.next e.next (Err why) → e.pushed ≡ a.pushed
+      → Progressed fixed budget a e (Err why)
+  progress_err fixed turned a b e budget taken posted left why was most (cut, begins) pushed = record {
+    acts = was.acts ++ cut.acts;
+    moves = all_append is_move was.acts cut.acts was.moves cut.moves;
+    went = went_then None a b e was.acts cut.acts was.went cut.went;
+    most = (let c = count_append is_take was.acts cut.acts in let d = count_append is_post was.acts cut.acts in let w = was.takes in let p = was.posts in let few = cut.few in omega (arith, c, d, w, p, few, most));
+    pushed = pushed;
+    begins = begun_then turned a b e was.acts cut.acts was.begun begins cut.went;
+    counted = (let c = count_append is_take was.acts cut.acts in let d = count_append is_post was.acts cut.acts in let w = was.takes in let p = was.posts in let few = cut.few in omega (arith, c, d, w, p, few, most));
+    lacks = λ why is. cut.lacks;
+    serves = serves_of fixed true a b e was.each cut.lanes was.acts cut.acts was.laps was.went cut.went (lap_in fixed true turned a b e taken posted cut.lanes a.next e.next cut.acts was cut.lap);
+  }
 
   -- the call ended so, and so each lane was served
-  pub record Ended (fixed : Bool) (a e : Seen Home) (taken posted : ℕ) (from next : Lane) : Type 0 where
+  pub record Ended (fixed : Bool) (a e : Seen Home) (taken posted : ℕ) : Type 0 where
     pub acts : List Act
     pub moves : AllAre is_move acts
     pub went : Went None a e acts
     pub begins : Begins a e acts
     pub takes : count_by is_take acts ≡ taken
     pub posts : count_by is_post acts ≡ posted
-    pub serves : Serves fixed false a e from next acts
+    pub serves : Serves fixed false a e acts
 
-  pub ended_in : (fixed turned : Bool) (a b e : Seen Home) (taken posted left : ℕ) (from next : Lane) (t : Turn) → Going turned a b taken posted → TurnedOn fixed left b e from next t → Ended fixed a e (taken + t.taken) (posted + t.posted) from next
-  ended_in fixed turned a b e taken posted left from next t was turn = record {
+  pub ended_in : (fixed turned : Bool) (a b e : Seen Home) (taken posted left : ℕ) (t : Turn) → Going turned a b taken posted → TurnedOn fixed left b e a.next e.next t → Ended fixed a e (taken + t.taken) (posted + t.posted)
+  ended_in fixed turned a b e taken posted left t was turn = record {
     acts = was.acts ++ turn.acts;
     moves = all_append is_move was.acts turn.acts was.moves turn.moves;
     went = went_then None a b e was.acts turn.acts was.went turn.went;
     begins = begun_then turned a b e was.acts turn.acts was.begun turn.begins turn.went;
     takes = (let c = count_append is_take was.acts turn.acts in let w = was.takes in let t' = turn.takes in omega (arith, c, w, t'));
     posts = (let c = count_append is_post was.acts turn.acts in let w = was.posts in let t' = turn.posts in omega (arith, c, w, t'));
-    serves = serves_of fixed false a b e was.each turn.lanes from next was.acts turn.acts was.laps was.went turn.went (lap_in fixed false turned a b e taken posted turn.lanes from next turn.acts was turn.lap);
+    serves = serves_of fixed false a b e was.each turn.lanes was.acts turn.acts was.laps was.went turn.went (lap_in fixed false turned a b e taken posted turn.lanes a.next e.next turn.acts was turn.lap);
   }
 
   -- the budget is spent, and draws are made
-  pub ended_drawn : (fixed : Bool) (a b e : Seen Home) (taken posted : ℕ) (from next : Lane) → Ended fixed a b taken posted from next → Draws b e → Ended fixed a e taken posted from next
-  ended_drawn fixed a b e taken posted from next was drawn =
+  pub ended_drawn : (fixed : Bool) (a b e : Seen Home) (taken posted : ℕ) → Ended fixed a b taken posted → Draws b e → Ended fixed a e taken posted
+  ended_drawn fixed a b e taken posted was drawn =
       let d = drawn.0 in
       let none = draws_none d.acts d.draws in
       record {
@@ -495,12 +495,12 @@ module _ {Home : Type 0} where
         begins = begins_then a b e was.acts d.acts was.begins d.went;
         takes = (let c = count_append is_take was.acts d.acts in let w = was.takes in let z = none.0 in omega (arith, c, w, z));
         posts = (let c = count_append is_post was.acts d.acts in let w = was.posts in let z = none.1 in omega (arith, c, w, z));
-        serves = serves_later fixed a b e from next was.acts d.acts was.serves d.draws d.went;
+        serves = serves_later fixed a b e was.acts d.acts was.serves d.draws d.went d.next;
       }
 
   -- the same where no turn follows
-  pub ended_at : (fixed turned : Bool) (a b e : Seen Home) (taken posted : ℕ) (from : Lane) → Going turned a b taken posted → Draws b e → Ended fixed a e taken posted from from
-  ended_at fixed turned a b e taken posted from was drawn =
+  pub ended_at : (fixed turned : Bool) (a b e : Seen Home) (taken posted : ℕ) → b.next ≡ a.next → Going turned a b taken posted → Draws b e → Ended fixed a e taken posted
+  ended_at fixed turned a b e taken posted same was drawn =
       let d = drawn.0 in
       let none = draws_none d.acts d.draws in
       record {
@@ -510,31 +510,29 @@ module _ {Home : Type 0} where
         begins = begun_then turned a b e was.acts d.acts was.begun (draws_alone b e d drawn.1) d.went;
         takes = (let c = count_append is_take was.acts d.acts in let w = was.takes in let z = none.0 in omega (arith, c, w, z));
         posts = (let c = count_append is_post was.acts d.acts in let w = was.posts in let z = none.1 in omega (arith, c, w, z));
-        serves = serves_later fixed a b e from from was.acts d.acts (serves_still fixed a b was.each from was.acts was.laps) d.draws d.went;
+        serves = serves_later fixed a b e was.acts d.acts (serves_still fixed a b was.each was.acts same was.laps) d.draws d.went d.next;
       }
 
-  pub progress_ok : (fixed : Bool) (a e : Seen Home) (budget taken posted : ℕ) (stop : Stop) (from next : Lane) → Ended fixed a e taken posted from next → taken + posted ≤ budget → e.pushed ≡ a.pushed → ((stop ≡ Budget) ↔ (taken + posted ≡ budget)) → StopsAs a e stop
-      → ProgressedFairly fixed budget a e from next (Ok (record { taken = taken; posted = posted; stop = stop }))
-  progress_ok fixed a e budget taken posted stop from next was most pushed exact stops = (
-    record {
-      acts = was.acts;
-      moves = was.moves;
-      went = was.went;
-      most = (let t = was.takes in let p = was.posts in omega (arith, t, p, most));
-      pushed = pushed;
-      begins = was.begins;
-      counted = (sym was.takes, sym was.posts, exact, stops);
-      lacks = λ why is. absurd (cc);
-    },
-    was.serves,
-  )
+  pub progress_ok : (fixed : Bool) (a e : Seen Home) (budget taken posted : ℕ) (stop : Stop) → Ended fixed a e taken posted → taken + posted ≤ budget → e.pushed ≡ a.pushed → ((stop ≡ Budget) ↔ (taken + posted ≡ budget)) → StopsAs a e stop
+      → Progressed fixed budget a e (Ok (record { taken = taken; posted = posted; stop = stop }))
+  progress_ok fixed a e budget taken posted stop was most pushed exact stops = record {
+    acts = was.acts;
+    moves = was.moves;
+    went = was.went;
+    most = (let t = was.takes in let p = was.posts in omega (arith, t, p, most));
+    pushed = pushed;
+    begins = was.begins;
+    counted = (sym was.takes, sym was.posts, exact, stops);
+    lacks = λ why is. absurd (cc);
+    serves = was.serves;
+  }
 
   -- the budget is spent
-  pub progress_spent : (fixed : Bool) (a b e : Seen Home) (budget taken posted : ℕ) (from next : Lane) (m : Answer) → m ≡ record { taken = taken; posted = posted; stop = Budget } → Ended fixed a e taken posted from next → taken + posted ≡ budget → Draws b e → b.pushed ≡ a.pushed
-      → ProgressedFairly fixed budget a e from next (Ok m)
-  progress_spent fixed a b e budget taken posted from next m is was all drawn pushed =
+  pub progress_spent : (fixed : Bool) (a b e : Seen Home) (budget taken posted : ℕ) (m : Answer) → m ≡ record { taken = taken; posted = posted; stop = Budget } → Ended fixed a e taken posted → taken + posted ≡ budget → Draws b e → b.pushed ≡ a.pushed
+      → Progressed fixed budget a e (Ok m)
+  progress_spent fixed a b e budget taken posted m is was all drawn pushed =
       let d = drawn.0 in
-      rw is (progress_ok fixed a e budget taken posted Budget from next was (omega (arith, all)) (d.pushed ∙ pushed) ((λ stop. all), (λ spent. refl)) drawn.1)
+      rw is (progress_ok fixed a e budget taken posted Budget was (omega (arith, all)) (d.pushed ∙ pushed) ((λ stop. all), (λ spent. refl)) drawn.1)
 
   -- nothing moved in the last turn
   pub stops_at : (fixed turned : Bool) (a b e : Seen Home) (taken posted left : ℕ) (from next : Lane) (t : Turn) (stop : Stop) → Going turned a b taken posted → TurnedOn fixed left b e from next t → t.short ≡ false → t.taken + t.posted ≡ 0
@@ -569,6 +567,6 @@ pub room_left : (t p b : ℕ) {n : ℕ} → (t + p < b) ⊎ (t + p ≡ 0) → n 
 room_left t p b (inl less) below = less
 room_left t p b (inr none) below = omega (arith, none, below)
 
-pub progress_err_of : {Home : Type 0} (fixed turned : Bool) (a b e : Seen Home) (budget taken posted left : ℕ) (from next : Lane) (r : Result Answer NoMemory) (why : NoMemory) → r ≡ Err why → Going turned a b taken posted → taken + posted + left ≤ budget
-    → Turns fixed left b e from next (Err why) → e.pushed ≡ a.pushed → ProgressedFairly fixed budget a e from next r
-progress_err_of fixed turned a b e budget taken posted left from next r why is was most turns pushed = rw is (progress_err fixed turned a b e budget taken posted left from next why was most turns pushed)
+pub progress_err_of : {Home : Type 0} (fixed turned : Bool) (a b e : Seen Home) (budget taken posted left : ℕ) (r : Result Answer NoMemory) (why : NoMemory) → r ≡ Err why → Going turned a b taken posted → taken + posted + left ≤ budget
+    → Turns fixed left b e a.next e.next (Err why) → e.pushed ≡ a.pushed → Progressed fixed budget a e r
+progress_err_of fixed turned a b e budget taken posted left r why is was most turns pushed = rw is (progress_err fixed turned a b e budget taken posted left why was most turns pushed)

@@ -1,16 +1,11 @@
--- The circle in which progress serves the lanes of a port: to peer 0, from peer 0, to peer 1, and so on.
---     IsOf peers l             the lane is to or from one of so many peers
+-- One lane behind another, in the circle in which progress serves them.
 --     Follows peers l next     the lane behind this one
 --     InCircle peers l         what holds of the lane that is next
 --     StandsAt peers from n l  the lane is so many behind `from`, at most once round
---     ahead peers next l       how many lanes have their turn before this one
-use Rattle.std.specs.Prelude.{◌≡◌, ◌+◌, ◌-◌, ◌<◌, ◌≤◌, ◌⊎◌, ℕ, Bool, true, false, nat_le}
-use Rattle.fab_ep.specs.declared.lanes.Lane.{Lane}
-use Rattle.fab_ep.specs.declared.lanes.Lane.TheVariants.{To, From}
-
-abbrev pub IsOf : ℕ → Lane → Type 0
-IsOf peers (To d) = d < peers
-IsOf peers (From s) = s < peers
+use Rattle.std.specs.Prelude.{◌≡◌, ◌+◌, ◌<◌, ◌≤◌, ◌⊎◌, ℕ}
+use Rattle.fab_face.specs.declared.lanes.Lane.{Lane}
+use Rattle.fab_face.specs.declared.lanes.Lane.TheVariants.{To, From}
+use Rattle.fab_face.specs.Circle.{IsOf, number, round}
 
 abbrev pub InCircle : ℕ → Lane → Type 0
 InCircle peers l = 0 < peers → IsOf peers l
@@ -19,20 +14,5 @@ abbrev pub Follows : ℕ → Lane → Lane → Type 0
 Follows peers (To d) next = next ≡ From d
 Follows peers (From s) next = ((s + 1 < peers) × (next ≡ To (s + 1))) ⊎ ((peers ≤ s + 1) × (next ≡ To 0))
 
--- the lane's number in the circle, and how many lanes there are
-abbrev pub number : Lane → ℕ
-number (To d) = d + d
-number (From s) = s + s + 1
-
-abbrev pub round : ℕ → ℕ
-round peers = peers + peers
-
 abbrev pub StandsAt : ℕ → Lane → ℕ → Lane → Type 0
 StandsAt peers from n l = (number l ≡ number from + n) ⊎ (number l + round peers ≡ number from + n)
-
-abbrev pub ahead_by : Bool → ℕ → ℕ → ℕ → ℕ
-ahead_by true lanes next l = l - next
-ahead_by false lanes next l = l + lanes - next
-
-abbrev pub ahead : ℕ → Lane → Lane → ℕ
-ahead peers next l = ahead_by (nat_le (number next) (number l)) (round peers) (number next) (number l)

@@ -10,7 +10,7 @@ use Rattle.fab_face.specs.Answers.{AllAre, HasPlaces, IsShort, Drawn}
 
 -- a draw was made; or none, since none is due or there is no room for it
 abbrev pub DrawsOne : {Home : Type 0} → Seen Home → Seen Home → Bool → Type 0
-DrawsOne old new true = HasPlaces old × Went None old new (Drew ∷ []) × (new.pushed ≡ old.pushed) × (new.lanes ≡ old.lanes)
+DrawsOne old new true = HasPlaces old × Went None old new (Drew ∷ []) × (new.pushed ≡ old.pushed) × (new.lanes ≡ old.lanes) × (new.next ≡ old.next)
 DrawsOne old new false = (new ≡ old) × Drawn new
 
 pub record Drawing {Home : Type 0} (old new : Seen Home) : Type 0 where
@@ -19,6 +19,7 @@ pub record Drawing {Home : Type 0} (old new : Seen Home) : Type 0 where
   pub went : Went None old new acts
   pub pushed : new.pushed ≡ old.pushed
   pub lanes : new.lanes ≡ old.lanes
+  pub next : new.next ≡ old.next
   -- a draw leaves the log a free place
   pub room : (acts ≡ []) ⊎ HasPlaces old
   pub place : HasPlaces old → length new.log + 1 ≤ new.log_size

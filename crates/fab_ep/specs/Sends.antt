@@ -23,6 +23,7 @@ pub record Admits {Home : Type 0} (call : Call) (old new : Seen Home) : Type 0 w
   pub only_if_full : acts ≢ [] → IsFull old
   pub tried : IsFull old → (d : ℕ) → d < new.lanes.peers → IsTried old new d
   pub ins : new.lanes.ins ≡ old.lanes.ins
+  pub next : new.next ≡ old.next
   pub granted : is_final (do_call new.held.state call).0 ≡ false
   pub room : nat_le new.held.state.most_tx (in_use new.held.state.tx) ≡ false
 

@@ -15,9 +15,10 @@ use Rattle.fab_face.specs.Answers.{AllAre, IsShort, SawEmpty, SawFull, LentLacks
 use Rattle.fab_ep.specs.declared.endpoint.Tried.{Tried}
 use Rattle.fab_ep.specs.declared.endpoint.Tried.TheVariants.{Moved, Nothing, Held as HeldBack, Short}
 use Rattle.fab_ep.specs.declared.endpoint.Turn.{Turn}
-use Rattle.fab_ep.specs.declared.lanes.Lane.{Lane}
-use Rattle.fab_ep.specs.declared.lanes.Lane.TheVariants.{To, From}
-use Rattle.fab_ep.specs.Circle.{Follows, IsOf, ahead, round}
+use Rattle.fab_face.specs.declared.lanes.Lane.{Lane}
+use Rattle.fab_face.specs.declared.lanes.Lane.TheVariants.{To, From}
+use Rattle.fab_face.specs.Circle.{IsOf, ahead, round}
+use Rattle.fab_ep.specs.Circle.{Follows}
 use Rattle.fab_ep.specs.Fairness.{Lap}
 
 -- the item that the machine lends

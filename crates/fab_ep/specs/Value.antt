@@ -11,8 +11,8 @@ use Rattle.fab_link.specs.declared.port.Port.{Ghosts}
 use Rattle.fab_face.specs.declared.events.Event.{Event}
 use Rattle.fab_face.specs.Held.{Held, Seen}
 use Rattle.fab_face.specs.Ports.{lanes_in}
-use Rattle.fab_ep.specs.declared.lanes.Lane.{Lane}
-use Rattle.fab_ep.specs.declared.lanes.Lane.TheVariants.{To}
+use Rattle.fab_face.specs.declared.lanes.Lane.{Lane}
+use Rattle.fab_face.specs.declared.lanes.Lane.TheVariants.{To}
 
 pub record Whole (P : Type 0) : Type 0 where
   pub port : P
@@ -23,7 +23,7 @@ pub record Whole (P : Type 0) : Type 0 where
   pub next : Lane
 
 abbrev pub seen : {P : Type 0} → (M : Ghosts P) → Whole P → Seen M.Home
-seen M e = record { held = e.held; log = e.log; log_size = e.log_size; pushed = e.pushed; lanes = lanes_in M e.port }
+seen M e = record { held = e.held; log = e.log; log_size = e.log_size; pushed = e.pushed; lanes = lanes_in M e.port; next = e.next }
 
 -- the log is empty, and the lane to peer 0 has the first turn
 abbrev pub anew : {P : Type 0} → P → Held → ℕ → Whole P

@@ -21,7 +21,6 @@ impl<P: Port, C: Machine> Endpoint<P, C> {
     fn draw_one(&mut self) -> bool
         ensures draws { DrawsOne (seen P.Port self.old) (seen P.Port self.new) result }
         ensures less { result ≡ true → length self.new.held.state.rx.unexpected < length self.old.held.state.rx.unexpected }
-        ensures next { self.new.next ≡ self.old.next }
     {
         if !self.core.is_draw_due() {
             return false;
@@ -39,8 +38,7 @@ impl<P: Port, C: Machine> Endpoint<P, C> {
 
     /// Makes the draws that are due, as far as there is room for them. Most often none is, and that is seen at once.
     pub(crate) fn draw_all(&mut self)
-        ensures draws { Draws (seen P.Port self.old) (seen P.Port self.new) }
-        ensures next { self.new.next ≡ self.old.next }
+        ensures { Draws (seen P.Port self.old) (seen P.Port self.new) }
     {
         if self.core.is_draw_due() {
             while self.draw_one() {}

@@ -6,18 +6,18 @@ ghost use Rattle.fab_link.specs.Joined.{is_last};
 ghost use Rattle.fab_link.specs.Meaning.{Others};
 ghost use Rattle.fab_face.specs.Held.{IsOpen, next_frame};
 ghost use Rattle.fab_face.specs.Acts.{only};
-ghost use Rattle.fab_face.specs.Answers.{IsShort, HasPlaces, MayLack};
+ghost use Rattle.fab_face.specs.Answers.{IsShort, HasPlaces, MayLack, MayWant, Progressed};
+ghost use Rattle.fab_face.specs.Circle.{IsOf};
 ghost use Rattle.fab_ep.specs.Value.{anew, seen};
 ghost use Rattle.fab_face.specs.declared.events.Stop.TheVariants.{Budget};
 ghost use Rattle.fab_ep.specs.Draws.{Draws};
 ghost use Rattle.fab_ep.specs.Tries.{HeldStays, Pushes, PushesOut, PushesOn, PushesTo, IsTied, PassesOn, PostsOut, TriesOut, TriesIn, Tries, Rounds, Turns, posted_on, taken_on, is_held, is_short, left_for};
-ghost use Rattle.fab_ep.specs.Circle.{IsOf};
-ghost use Rattle.fab_ep.specs.Fairness.{MayWant, ProgressedFairly};
 
 use crate::frames::post_next;
-use crate::lanes::Lane;
+use crate::lanes::following;
 use fab_base::{FRAME_BYTES, NoMemory};
 use fab_face::events::{Event, Moved, Stop};
+use fab_face::lanes::Lane;
 use fab_face::machine::Machine;
 use fab_link::Port;
 use std::alloc::Global;
@@ -223,6 +223,7 @@ impl<P: Port, C: Machine> Endpoint<P, C> {
         ensures stays { HeldStays (seen P.Port self.old) (seen P.Port self.new) dest }
         ensures places { HasPlaces (seen P.Port self.new) }
         ensures memory { OnErr result (P.FIXED ≢ true) }
+        ensures next { self.new.next ≡ self.old.next }
         ensures pushed { self.new.pushed ≡ self.old.pushed }
     {
         let tight = self.is_tight();
@@ -243,6 +244,7 @@ impl<P: Port, C: Machine> Endpoint<P, C> {
         ensures stays { HeldStays (seen P.Port self.old) (seen P.Port self.new) dest }
         ensures places { HasPlaces (seen P.Port self.new) }
         ensures memory { OnErr result (P.FIXED ≢ true) }
+        ensures next { self.new.next ≡ self.old.next }
         ensures less { result ≡ Ok true → left_for self.new.held dest < left_for self.old.held dest }
     {
         self.core.known();
@@ -262,6 +264,7 @@ impl<P: Port, C: Machine> Endpoint<P, C> {
         ensures stays { HeldStays (seen P.Port self.old) (seen P.Port self.new) dest }
         ensures places { HasPlaces (seen P.Port self.new) }
         ensures memory { OnErr result (P.FIXED ≢ true) }
+        ensures next { self.new.next ≡ self.old.next }
     {
         while self.push_on(dest)? {}
         Ok(())
@@ -274,6 +277,7 @@ impl<P: Port, C: Machine> Endpoint<P, C> {
         ensures ins { P.ins self.new.port ≡ P.ins self.old.port }
         ensures places { HasPlaces (seen P.Port self.new) }
         ensures memory { OnErr result (P.FIXED ≢ true) }
+        ensures next { self.new.next ≡ self.old.next }
     {
         let peers = self.port.peers();
         for dest in 0..peers {
@@ -340,7 +344,7 @@ impl<P: Port, C: Machine> Endpoint<P, C> {
         let lane = self.next;
         let tried = self.try_lane(lane);
         if !matches!(tried, Ok(Tried::Short)) {
-            self.next = lane.following(self.port.peers());
+            self.next = following(lane, self.port.peers());
         }
         tried
     }
@@ -397,7 +401,6 @@ impl<P: Port, C: Machine> Endpoint<P, C> {
     /// The budget is spent. The draws that are due are made, as far as there is room for them.
     fn spend(&mut self, taken: u32, posted: u32) -> Moved
         ensures draws { Draws (seen P.Port self.old) (seen P.Port self.new) }
-        ensures next { self.new.next ≡ self.old.next }
         ensures moved { result ≡ record { taken = taken; posted = posted; stop = Budget } }
     {
         self.draw_all();
@@ -411,7 +414,7 @@ impl<P: Port, C: Machine> Endpoint<P, C> {
     /// Draws, posts and takes frames in turns, until a turn moves no frame, `budget` frames have moved, or
     /// the log is short. Where the budget ends it, draws are made once more.
     pub(crate) fn move_frames(&mut self, budget: u32) -> Result<Moved, NoMemory>
-        ensures { ProgressedFairly P.FIXED budget (seen P.Port self.old) (seen P.Port self.new) self.old.next self.new.next result }
+        ensures { Progressed P.FIXED budget (seen P.Port self.old) (seen P.Port self.new) result }
     {
         let mut taken = 0;
         let mut posted = 0;

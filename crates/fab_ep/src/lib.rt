@@ -11,8 +11,7 @@ mod drawing;
 pub mod endpoint;
 mod frames;
 mod keeping;
-pub mod lanes;
-mod laws;
+mod lanes;
 mod looking;
 mod multis;
 mod plain;
@@ -22,5 +21,3 @@ mod regions;
 mod requests;
 pub mod seats;
 mod sending;
-
-pub use laws::law_turns;

@@ -42,6 +42,7 @@ impl<P: Port, C: Requesting> Endpoint<P, C> {
         requires place { length self.old.log + 1 ≤ self.old.log_size }
         ensures did { Went (Some (requesting request.now buf [] (Some buf))) (seen P.Port self.old) (seen P.Port self.new) (Did ∷ []) }
         ensures pushed { self.new.pushed ≡ self.old.pushed }
+        ensures next { self.new.next ≡ self.old.next }
         ensures ins { P.ins self.new.port ≡ P.ins self.old.port }
     {
         self.core.known();
@@ -57,6 +58,7 @@ impl<P: Port, C: Requesting> Endpoint<P, C> {
         requires place { length self.old.log + 1 ≤ self.old.log_size }
         ensures did { Went (Some (requesting request.now bytes.now compared.now buf)) (seen P.Port self.old) (seen P.Port self.new) (Did ∷ []) }
         ensures pushed { self.new.pushed ≡ self.old.pushed }
+        ensures next { self.new.next ≡ self.old.next }
         ensures ins { P.ins self.new.port ≡ P.ins self.old.port }
     {
         self.core.known();

@@ -4,8 +4,8 @@ ghost use Rattle.fab_face.specs.Held.{IsRepaid};
 ghost use Rattle.fab_face.specs.Ports.{GoesOn, lanes_in};
 
 use crate::endpoint::Endpoint;
-use crate::lanes::Lane;
 use fab_face::events::Event;
+use fab_face::lanes::Lane;
 use fab_face::machine::Machine;
 use fab_link::Port;
 use std::collections::VecDeque;

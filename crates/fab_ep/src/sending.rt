@@ -69,6 +69,7 @@ impl<P: Port, C: Machine> Endpoint<P, C> {
         requires below { dest < P.peer_count self.old.port }
         requires place { next_frame self.old.held dest ≢ None → length self.old.log + 1 ≤ self.old.log_size }
         ensures out { LetsOutOne P.FIXED (seen P.Port self.old) (seen P.Port self.new) dest result }
+        ensures next { self.new.next ≡ self.old.next }
         ensures ins { P.ins self.new.port ≡ P.ins self.old.port }
         ensures less { result ≡ true → left_for self.new.held dest < left_for self.old.held dest }
     {
@@ -87,6 +88,7 @@ impl<P: Port, C: Machine> Endpoint<P, C> {
         requires place { length self.old.log + 1 ≤ self.old.log_size }
         requires only { IsOnly self.old.held dest }
         ensures out { LetsOut P.FIXED (seen P.Port self.old) (seen P.Port self.new) dest }
+        ensures next { self.new.next ≡ self.old.next }
         ensures ins { P.ins self.new.port ≡ P.ins self.old.port }
     {
         while self.let_out_one(dest) {}
@@ -122,6 +124,7 @@ impl<P: Port, C: Machine> Endpoint<P, C> {
         requires place { length self.old.log + 1 ≤ self.old.log_size }
         ensures did { Went (Some (sending message.now buf)) (seen P.Port self.old) (seen P.Port self.new) (Did ∷ []) }
         ensures pushed { self.new.pushed ≡ self.old.pushed }
+        ensures next { self.new.next ≡ self.old.next }
         ensures ins { P.ins self.new.port ≡ P.ins self.old.port }
     {
         self.core.known();
@@ -154,6 +157,7 @@ impl<P: Port, C: Machine> Endpoint<P, C> {
         requires place { length self.old.log + 1 ≤ self.old.log_size }
         ensures did { Went (Some (sending message.now bytes.now)) (seen P.Port self.old) (seen P.Port self.new) (Did ∷ []) }
         ensures pushed { self.new.pushed ≡ self.old.pushed }
+        ensures next { self.new.next ≡ self.old.next }
         ensures ins { P.ins self.new.port ≡ P.ins self.old.port }
     {
         self.core.known();

@@ -10,3 +10,5 @@ pub mod Arriving
 pub mod Repaid
 mod Refused
 pub mod Going
+pub mod Circle
+mod Fairness

@@ -4,9 +4,11 @@
 --     Progressed            progress
 --     Begins, MayLack       what it makes first, and where it may lack memory
 --     IsIdle old new        nothing is left to move, as the call itself saw
+--     Serves                what progress gives to each lane
+--     HadTurn               a frame of the lane moved, or none could; or memory lacked for it
 --     Locally call          a call that logs nothing: of addresses, regions and counters
 --     Pops                  the completion queue
-use Rattle.std.specs.Prelude.{◌≡◌, ◌≢◌, ℕ, ◌+◌, ◌<◌, ◌≤◌, ◌⊎◌, ◌↔◌, Bool, true, false, List, [], ◌∷◌, ◌++◌, length, Option, Some, None, Result, Ok, Err, IfSome, count_by}
+use Rattle.std.specs.Prelude.{◌≡◌, ◌≢◌, ℕ, ◌+◌, ◌<◌, ◌≤◌, ◌⊎◌, ◌↔◌, Bool, true, false, List, [], ◌∷◌, ◌++◌, length, Option, Some, None, Result, Ok, Err, IfSome, count_by, is_err}
 use Rattle.std.specs.List.{list_any, list_all}
 use Rattle.fab_base.specs.Counts.{Rose}
 use Rattle.fab_base.specs.declared.entries.Taken.{Taken}
@@ -42,8 +44,11 @@ use Rattle.fab_model.specs.Peers.{unread, multi_buf, part_of}
 use Rattle.fab_face.specs.declared.events.Moved.{Moved}
 use Rattle.fab_face.specs.declared.events.Stop.{Stop}
 use Rattle.fab_face.specs.declared.events.Stop.TheVariants.{Idle, Budget, CqFull as StoppedCqFull, LogFull as StoppedLogFull}
+use Rattle.fab_face.specs.declared.lanes.Lane.{Lane}
+use Rattle.fab_face.specs.declared.lanes.Lane.TheVariants.{To, From}
+use Rattle.fab_face.specs.Circle.{IsOf, ahead}
 use Rattle.fab_face.specs.Held.{Held, Lanes, Seen, with_machine, begun_of, next_frame}
-use Rattle.fab_face.specs.Acts.{Act, Did, Went, is_post, is_take, is_draw, is_move, is_first, headed, has_read, posted_to}
+use Rattle.fab_face.specs.Acts.{Act, Did, Went, is_post, is_take, is_draw, is_move, is_first, headed, has_read, posted_to, taken_of}
 
 -- every act is of this kind
 abbrev pub AllAre : (Act → Bool) → List Act → Type 0
@@ -149,6 +154,47 @@ pub record Begins {Home : Type 0} (old new : Seen Home) (acts : List Act) : Type
   pub drawn : Drawn mid
   pub went : Went None mid new rest
 
+-- ---- what each lane gets
+
+-- how many frames moved on the lane, and on all lanes
+abbrev pub frames_on : Lane → List Act → ℕ
+frames_on (To d) acts = length (posted_to d acts)
+frames_on (From s) acts = length (taken_of s acts)
+
+abbrev pub frames_in : List Act → ℕ
+frames_in acts = count_by is_take acts + count_by is_post acts
+
+-- the lane has no frame to move, or was seen full or empty since `old`, or its frame waits for room in the completion queue
+abbrev pub HasNone : {Home : Type 0} → Seen Home → Seen Home → Lane → Type 0
+HasNone old new (To d) = next_frame new.held d ≢ None → SawFull old.lanes new.lanes d ⊎ NextLacks new d
+HasNone old new (From s) = SawEmpty old.lanes new.lanes s ⊎ LentLacks new s
+
+-- so it was at some time since
+pub record HadNone {Home : Type 0} (old new : Seen Home) (l : Lane) : Type 0 where
+  pub mid : Seen Home
+  pub before : List Act
+  pub after : List Act
+  pub till : Went None old mid before
+  pub from : Went None mid new after
+  pub none : HasNone old mid l
+
+-- the lane's frame may need memory: the port takes some, or it is a first frame
+abbrev pub MayWant : {Home : Type 0} → Bool → Seen Home → Lane → Type 0
+MayWant fixed e (To d) = fixed ≡ false
+MayWant fixed e (From s) = LentNeeds e s
+
+-- `failed`: memory lacked
+abbrev pub HadTurn : {Home : Type 0} → Bool → Bool → Seen Home → Seen Home → List Act → Lane → Type 0
+HadTurn fixed failed old new acts l = (0 < frames_on l acts) ⊎ (HadNone old new l ⊎ ((failed ≡ true) × MayWant fixed new l))
+
+pub record Serves {Home : Type 0} (fixed failed : Bool) (old new : Seen Home) (acts : List Act) : Type 0 where
+  -- no lane moved more than one frame more than another, unless at some time nothing could move on that one
+  pub fair : (l m : Lane) → IsOf old.lanes.peers l → IsOf old.lanes.peers m → (frames_on m acts ≤ frames_on l acts + 1) ⊎ HadNone old new l
+  -- a lane that had no turn comes nearer to it by each frame that moved
+  pub nearer : (l : Lane) → IsOf old.lanes.peers l → HadTurn fixed failed old new acts l ⊎ (frames_in acts + ahead old.lanes.peers new.next l ≤ ahead old.lanes.peers old.next l)
+
+-- ---- progress
+
 -- frames and draws, at most `budget` frames
 pub record Progressed {Home : Type 0} (fixed : Bool) (budget : ℕ) (old new : Seen Home) (answer : Result Moved NoMemory) : Type 0 where
   pub acts : List Act
@@ -160,6 +206,8 @@ pub record Progressed {Home : Type 0} (fixed : Bool) (budget : ℕ) (old new : S
   pub begins : Begins old new acts
   pub counted : Counted budget old new acts answer
   pub lacks : (why : NoMemory) → answer ≡ Err why → MayLack fixed new
+  -- each lane has its turn
+  pub serves : Serves fixed (is_err answer) old new acts
 
 -- ---- transmit and receive calls
 
@@ -206,6 +254,7 @@ pub record Sends {Home : Type 0} (fixed : Bool) (call : Call) (dest : ℕ) (old 
   pub till : Went None old mid before
   pub from : Went (Some call) mid new (Did ∷ after)
   pub pushed : new.pushed ≡ list_any is_post (before ++ Did ∷ after)
+  pub next : new.next ≡ old.next
   -- the push leaves the log two places: for the call, and for the item
   pub places : HasPlaces old
   pub place : HasPlaces mid
@@ -228,6 +277,7 @@ pub record SendsNot {Home : Type 0} (fixed : Bool) (call : Call) (old new : Seen
   pub push : AllAre is_post acts
   pub went : Went (Some call) old new acts
   pub pushed : new.pushed ≡ list_any is_post acts
+  pub next : new.next ≡ old.next
   pub judged : Judged call old new (IsShort old) fault
   pub early : is_early fault ≡ true → acts ≡ []
   pub short : IsShort old → acts ≡ []
@@ -250,6 +300,7 @@ pub record Receives {Home : Type 0} (call : Call) (old new : Seen Home) : Type 0
   pub then_draws : AllAre is_draw after
   pub went : Went (Some call) old new (before ++ Did ∷ after)
   pub pushed : new.pushed ≡ old.pushed
+  pub next : new.next ≡ old.next
   pub lanes : new.lanes ≡ old.lanes
   pub places : HasPlaces old
   -- the last place of the log is never taken by a draw
@@ -262,6 +313,7 @@ pub record ReceivesNot {Home : Type 0} (call : Call) (old new : Seen Home) (faul
   pub draws : AllAre is_draw acts
   pub went : Went (Some call) old new acts
   pub pushed : new.pushed ≡ old.pushed
+  pub next : new.next ≡ old.next
   pub lanes : new.lanes ≡ old.lanes
   pub judged : Judged call old new (IsShort old ⊎ ((draw_due new.held.state.rx ≡ true) × (new.log_size ≡ length new.log + 1))) fault
   pub early : is_early fault ≡ true → acts ≡ []

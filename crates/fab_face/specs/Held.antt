@@ -1,7 +1,7 @@
 -- What contracts see of an endpoint.
 --     Held      the machine's state, and what is unfinished: items partly posted, items partly taken
 --     Lanes     what its port means
---     Seen      an endpoint: what is held, the log, and the port
+--     Seen      an endpoint: what is held, the log, the port, and the lane whose turn is next
 --     next_frame h d      the frame that goes to peer d next
 --     due h d op          the replies to an operation that are still to be posted to the peer d
 --     IsOpen e  what holds of an endpoint between its calls
@@ -18,6 +18,7 @@ use Rattle.fab_link.specs.Meaning.{Outgoing, Incoming, Owes, end_of, taken_end}
 use Rattle.fab_model.specs.State.{State, accepted_for, in_use, lookup}
 use Rattle.fab_model.specs.Sending.{AreFenced}
 use Rattle.fab_face.specs.declared.events.Event.{Event}
+use Rattle.fab_face.specs.declared.lanes.Lane.{Lane}
 use Rattle.fab_face.specs.Owed.{Pledged, dues}
 
 -- ---- what is held
@@ -70,6 +71,8 @@ pub record Seen (Home : Type 0) : Type 0 where
   -- the last transmit call posted a frame
   pub pushed : Bool
   pub lanes : Lanes Home
+  -- the lane that has the next turn of progress
+  pub next : Lane
 
 -- the item with this head is posted or taken up to this place, which is within it
 pub record IsWithin (end : Option FrameHead) (item : Item) (place : ℕ) : Type 0 where

@@ -1,7 +1,9 @@
+pub mod Circle
 pub mod Held
 pub mod Owed
 pub mod Acts
 pub mod Answers
+pub mod Fairness
 pub mod Ports
 pub mod Probes
 pub mod Looking

@@ -1,19 +1,14 @@
--- How an endpoint over a port is seen: the words for the concrete type.
+-- What a port means, and what a new endpoint over it needs: the words for the concrete type.
 --     lanes_in M port    what the port means, M being the ghost members of its trait
---     Whole              the value of an endpoint: its port and what is held
---     seen M e           the endpoint as the clauses speak of it
-use Rattle.std.specs.Prelude.{◌≡◌, ℕ, ◌<◌, Bool, false, ◌&&◌, ◌==◌, nat_le, replicate, List, [], None}
+use Rattle.std.specs.Prelude.{◌≡◌, ℕ, ◌<◌, Bool, ◌&&◌, ◌==◌, nat_le, [], None}
 use Rattle.fab_base.specs.declared.caps.Info.{Info}
 use Rattle.fab_base.specs.declared.limits.Limits.{Limits}
 use Rattle.fab_base.specs.declared.limits.Size.TheVariants.{Peers, Lane, Pool, Tx, Rx, Cq, Log, Inject}
 use Rattle.fab_base.specs.Offer.{limits_of, most_message}
-use Rattle.fab_av.specs.Addresses.{Addresses}
 use Rattle.fab_link.specs.Cut.{IsBetweenItems}
 use Rattle.fab_link.specs.Meaning.{end_of, taken_end}
-use Rattle.fab_model.specs.Replay.{fresh}
 use Rattle.fab_link.specs.declared.port.Port.{Ghosts}
-use Rattle.fab_face.specs.declared.events.Event.{Event}
-use Rattle.fab_face.specs.Held.{Held, Lanes, Seen}
+use Rattle.fab_face.specs.Held.{Lanes}
 
 abbrev pub lanes_in : {P : Type 0} → (M : Ghosts P) → P → Lanes M.Home
 lanes_in M port = record {
@@ -25,16 +20,6 @@ lanes_in M port = record {
   in_list = M.in_list (M.home port);
   moves = M.moves port;
 }
-
-pub record Whole (P : Type 0) : Type 0 where
-  pub port : P
-  pub held : Held
-  pub log : List Event
-  pub log_size : ℕ
-  pub pushed : Bool
-
-abbrev pub seen : {P : Type 0} → (M : Ghosts P) → Whole P → Seen M.Home
-seen M e = record { held = e.held; log = e.log; log_size = e.log_size; pushed = e.pushed; lanes = lanes_in M e.port }
 
 -- ---- opening
 
@@ -55,21 +40,6 @@ is_granted i peers =
     (i.peers == peers) && within (limits_of i.api Peers) i.peers && within (limits_of i.api Lane) i.lane && within (limits_of i.api Pool) i.pool
     && within (limits_of i.api Tx) i.tx && within (limits_of i.api Rx) i.rx && within (limits_of i.api Cq) i.cq && within (limits_of i.api Log) i.log
     && within (limits_of i.api Inject) i.inject && (i.message == most_message i.api)
-
--- the endpoint as it is opened
-abbrev pub opened : {P : Type 0} → P → Addresses → Info → Bool → Whole P
-opened port av info selective = record {
-  port = port;
-  held = record {
-    state = record (fresh (record { hints = None; info = info; peers = av.peers; selective = selective })) { av = av.indices };
-    places = replicate av.peers 0;
-    begun = replicate av.peers None;
-    multis = [];
-  };
-  log = [];
-  log_size = info.log;
-  pushed = false;
-}
 
 -- the new port goes on where the old one ended
 pub record GoesOn {P Q : Type 0} (M : Ghosts P) (N : Ghosts Q) (old : P) (new : Q) : Type 0 where

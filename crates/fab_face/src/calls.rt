@@ -252,8 +252,9 @@ pub trait Multis: Sees {
 /// Progress and the completion queue (fi_cq(3)).
 pub trait Progress: Sees {
     /// Moves at most `budget` frames, and makes the draws that are due, before the first frame and again
-    /// behind the last: an endpoint moves only when it is called (FI_PROGRESS_MANUAL of fi_domain(3)). What
-    /// was moved before want of memory stays moved.
+    /// behind the last: an endpoint moves only when it is called (FI_PROGRESS_MANUAL of fi_domain(3)). Lanes
+    /// have their turns in a circle, from the one that is next on. What was moved before want of memory stays
+    /// moved.
     fn progress(&mut self, budget: u32) -> Result<Moved, NoMemory>
         ensures { Progressed Self.fixed budget (Self.seen self.old) (Self.seen self.new) result };
 

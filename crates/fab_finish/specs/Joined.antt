@@ -47,6 +47,7 @@ seen_plain e = record {
     in_list = λ s. Some ((home_of e.port).in_lists s);
     moves = None;
   };
+  next = e.next;
 }
 
 abbrev pub told_of : Member → Told PlainHome

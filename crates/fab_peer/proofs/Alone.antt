@@ -102,8 +102,8 @@ count_final class s = refl
 
 module _ {Home : Type 0} where
   did_alone : (a b : Told Home) (e : Seen Home) (outcome : LineResult) → ((ctx : ℕ) → waited_back ctx outcome ≡ false) → (IsCounted (living_of a) → IsCounted (living e.held a.lines a.results a.kept)) → do_next (actor_of a) ≡ Some (actor_in (living e.held a.lines (a.results ++ outcome ∷ []) a.kept)) → SameParts a.seen.held e.held
-      → e.lanes ≡ a.seen.lanes → e.log ≡ [] → b ≡ noted outcome (with_seen a e) → WentOn a b true true
-  did_alone a b e outcome plain grown step parts lanes log is = rw is (record {
+      → e.lanes ≡ a.seen.lanes → e.log_size ≡ a.seen.log_size → e.log ≡ [] → b ≡ noted outcome (with_seen a e) → WentOn a b true true
+  did_alone a b e outcome plain grown step parts lanes sized log is = rw is (record {
     acts = Did ∷ [];
     lived = record {
       lives = (living e.held a.lines (a.results ++ outcome ∷ []) a.kept, (step, parts), refl);
@@ -117,6 +117,7 @@ module _ {Home : Type 0} where
     lines = refl;
     counted = λ c. counted_noted a.lines a.results a.kept e.held outcome plain (grown c);
     one = refl;
+    size = sized;
     waits = λ nay. absurd (cc nay);
   })
 
@@ -127,7 +128,7 @@ module _ {Home : Type 0} where
       let parts : SameParts a.seen.held e.held = (ap (λ (x : Seen Home). x.held.places) here.changed, ap (λ (x : Seen Home). x.held.begun) here.changed) in
       let step = did_lives a.seen.held e.held a.lines a.results a.kept call outcome next here.answered again parts in
       let adds : Adds 1 a.seen.held.state e.held.state = subst (λ (x : LineResult × State). Adds 1 a.seen.held.state x.1) here.answered (adds_call a.seen.held.state call) in
-      did_alone a b e outcome plain (counted_grown a.lines a.results a.kept 1 a.seen.held e.held adds (ap (λ (x : Seen Home). x.held.multis) here.changed)) step.0 parts (ap (λ (x : Seen Home). x.lanes) here.changed) (ap (λ (x : Seen Home). x.log) here.changed ∙ none) is
+      did_alone a b e outcome plain (counted_grown a.lines a.results a.kept 1 a.seen.held e.held adds (ap (λ (x : Seen Home). x.held.multis) here.changed)) step.0 parts (ap (λ (x : Seen Home). x.lanes) here.changed) (ap (λ (x : Seen Home). x.log_size) here.changed) (ap (λ (x : Seen Home). x.log) here.changed ∙ none) is
 
   -- a call that changes nothing
   pub still_line : (a b : Told Home) (call : Call) (outcome : LineResult) → ((ctx : ℕ) → waited_back ctx outcome ≡ false) → IsCalled a.lines a.results a.kept call → IsFinal call → a.seen.log ≡ []
@@ -212,6 +213,7 @@ module _ {Home : Type 0} where
     lines = refl;
     counted = λ c. c;
     one = refl;
+    size = refl;
     waits = λ d. inl (next_is (actor_of a) (line.Reach class n) next ∙ rw (less, do_line) refl);
   })
 
@@ -219,7 +221,7 @@ module _ {Home : Type 0} where
   unfolding do_line
   reach_done a b class n next enough log is =
       let step : do_next (actor_of a) ≡ Some (actor_in (living a.seen.held a.lines (a.results ++ Done ∷ []) a.kept)) = next_is (actor_of a) (line.Reach class n) next ∙ rw (enough, do_line) refl in
-      did_alone a b a.seen Done (λ ctx. refl) (λ c. c) step (refl, refl) refl log is
+      did_alone a b a.seen Done (λ ctx. refl) (λ c. c) step (refl, refl) refl refl log is
 
 -- ---- what calls answer
 

@@ -274,6 +274,7 @@ module _ {Home : Type 0} (a : Told Home) (e : Seen Home) (call : Call) (next : I
         lines = refl;
         counted = counted_call a.lines a.results a.kept call ok.before ok.after a.seen.held e.held next.1 before after ok.went.goes;
         one = one_line ok.before ok.after before after;
+        size = ok.went.size;
         waits = λ nay. absurd (cc nay);
       })
   sends_on fixed dest buf (Err r) b true sound ok err (final, memory, is) =
@@ -289,6 +290,7 @@ module _ {Home : Type 0} (a : Told Home) (e : Seen Home) (call : Call) (next : I
         lines = refl;
         counted = λ c. counted_noted a.lines a.results a.kept e.held (Refused r.why) (λ ctx. refl) (counted_moves a.lines a.results a.kept (Some call) nay.acts a.seen.held e.held moves nay.went.goes c);
         one = one_line nay.acts [] moves refl;
+        size = nay.went.size;
         waits = λ nay. absurd (cc nay);
       })
   sends_on fixed dest buf (Err r) b false sound ok err (again, is) =
@@ -306,6 +308,7 @@ module _ {Home : Type 0} (a : Told Home) (e : Seen Home) (call : Call) (next : I
         lines = refl;
         counted = counted_moves a.lines a.results a.kept (Some call) nay.acts a.seen.held e.held moves nay.went.goes;
         one = no_line nay.acts moves;
+        size = nay.went.size;
         waits = λ d. inl waits_now;
       })
 
@@ -325,6 +328,7 @@ module _ {Home : Type 0} (a : Told Home) (e : Seen Home) (call : Call) (next : I
         lines = refl;
         counted = counted_call a.lines a.results a.kept call ok.before ok.after a.seen.held e.held next.1 before after ok.went.goes;
         one = one_line ok.before ok.after before after;
+        size = ok.went.size;
         waits = λ nay. absurd (cc nay);
       })
   receives_on (Err f) b true sound opened ok nay (final, memory, is) =
@@ -339,6 +343,7 @@ module _ {Home : Type 0} (a : Told Home) (e : Seen Home) (call : Call) (next : I
         lines = refl;
         counted = λ c. counted_noted a.lines a.results a.kept e.held (Refused f) (λ ctx. refl) (counted_moves a.lines a.results a.kept (Some call) nay.acts a.seen.held e.held moves nay.went.goes c);
         one = one_line nay.acts [] moves refl;
+        size = nay.went.size;
         waits = λ nay. absurd (cc nay);
       })
   receives_on (Err f) b false sound opened ok nay (again, is) =
@@ -355,6 +360,7 @@ module _ {Home : Type 0} (a : Told Home) (e : Seen Home) (call : Call) (next : I
         lines = refl;
         counted = counted_moves a.lines a.results a.kept (Some call) nay.acts a.seen.held e.held moves nay.went.goes;
         one = no_line nay.acts moves;
+        size = nay.went.size;
         waits = λ d. elim (judged_waits call a.seen e _ f nay.judged again) [
           | inl there ↦ inl (again_held e.held a.lines a.results a.kept call (Refused f) next there again)
           | inr short ↦ inr (still_due short)
@@ -424,6 +430,7 @@ module _ {Home : Type 0} where
     lines = refl;
     counted = λ c. c;
     one = refl;
+    size = refl;
     waits = λ d. inl (next_is (actor_of a) (Wait ctx) next ∙ rw (none, wait_line) refl);
   })
 
@@ -447,6 +454,7 @@ module _ {Home : Type 0} where
         lines = refl;
         counted = counted_waited a.lines a.results a.kept a.seen.held (is_of_ctx ctx) k found;
         one = refl;
+        size = refl;
         waits = λ nay. absurd (cc nay);
       })
 
@@ -456,7 +464,7 @@ module _ {Home : Type 0} where
   read_lives a w first = (rw (first, read_next) refl, (refl, refl))
 
   pub reads_none : (a : Told Home) → ReadOn a a false
-  reads_none a = record { acts = []; lived = lived_same a; any_is = refl; lanes = refl; log = refl; lines = refl; results = refl; reads = refl; counted = λ c. c }
+  reads_none a = record { acts = []; lived = lived_same a; any_is = refl; lanes = refl; log = refl; lines = refl; results = refl; reads = refl; size = refl; counted = λ c. c }
 
   -- what the peer knows is what the machine counts
   only_is : (a : Told Home) (ctx : ℕ) → IsCounted (living_of a) → is_only a ctx ≡ is_only_multi (actor_of a) ctx
@@ -515,6 +523,7 @@ module _ {Home : Type 0} where
     lines = on.lines;
     results = on.results;
     reads = read_more on.acts on.reads;
+    size = on.size;
     counted = λ counted. subst (λ (x : Told Home). IsCounted (living_of x)) r.read r.counted;
   })
     where
@@ -554,5 +563,6 @@ finished_on a none log = record {
   lines = refl;
   counted = λ c. c;
   one = refl;
+  size = refl;
   waits = λ d. inl (rw (none, do_next) refl);
 }

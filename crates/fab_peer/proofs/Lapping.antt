@@ -6,19 +6,22 @@ use Rattle.fab_peer.specs.Laps.{Reads, Lap, Laps, InLaps}
 
 module _ {Home : Type 0} where
   pub reads_of : (a b : Told Home) (any : Bool) → ReadOn a b any → Reads a b
-  reads_of a b any r = record { acts = r.acts; are = r.reads; lives = r.lived.lives; lanes = r.lanes }
+  reads_of a b any r = record { acts = r.acts; are = r.reads; lives = r.lived.lives; lanes = r.lanes; size = r.size }
 
   lap_by : (fixed : Bool) (a b : Told Home) (s t : List Step) → Lap fixed a b → Lap fixed (record a { schedule = s }) (record b { schedule = t })
   lap_by fixed a b s t l = record {
     acts = l.acts;
     mid = l.mid;
     lines = l.lines;
+    ported = l.ported;
+    log = l.log;
+    size = l.size;
     few = l.few;
     whole = l.whole;
     near = l.near;
     moved = l.moved;
     progressed = l.progressed;
-    reads = (let r = l.reads in record { acts = r.acts; are = r.are; lives = r.lives; lanes = r.lanes });
+    reads = (let r = l.reads in record { acts = r.acts; are = r.are; lives = r.lives; lanes = r.lanes; size = r.size });
   }
 
   laps_by : (fixed : Bool) (n : ℕ) (a b : Told Home) (s t : List Step) → Laps fixed n a b → Laps fixed n (record a { schedule = s }) (record b { schedule = t })
@@ -33,7 +36,7 @@ module _ {Home : Type 0} where
   pub in_laps_by : (fixed : Bool) (looks : ℕ) (a b : Told Home) (s t : List Step) → InLaps fixed looks a b → InLaps fixed looks (record a { schedule = s }) (record b { schedule = t })
   in_laps_by fixed looks a b s t i = record {
     start = i.start;
-    reads = (let r = i.reads in record { acts = r.acts; are = r.are; lives = r.lives; lanes = r.lanes });
+    reads = (let r = i.reads in record { acts = r.acts; are = r.are; lives = r.lives; lanes = r.lanes; size = r.size });
     more = i.more;
     most = i.most;
     one = i.one;

@@ -14,3 +14,4 @@ pub mod Resting
 pub mod Filling
 pub mod Leaving
 pub mod Lapping
+pub mod Refused

@@ -16,9 +16,9 @@ use Rattle.fab_peer.proofs.Showing.{joins_by, walk_shown}
 
 module _ {Home : Type 0} where
   -- a line that was not done ends the lines
-  pub lines_end : (a b c : Told Home) (acts : List Act) (moved done more all : Bool) → (IsCounted (living_of a) → IsCounted (living_of b)) → Lived a b acts → moved ≡ is_some_act acts → b.lines ≡ a.lines → count_by is_line acts ≤ 16
+  pub lines_end : (a b c : Told Home) (acts : List Act) (moved done more all : Bool) → (IsCounted (living_of a) → IsCounted (living_of b)) → Lived a b acts → moved ≡ is_some_act acts → b.lines ≡ a.lines → count_by is_line acts ≤ 16 → b.seen.log_size ≡ a.seen.log_size
       → WentOn b c done more → done ≡ false → all ≡ (moved || more) → Lined a c all
-  lines_end a b c acts moved done more all counted lived is lines few w nay is_all = record {
+  lines_end a b c acts moved done more all counted lived is lines few sized w nay is_all = record {
     acts = acts ++ w.acts;
     lived = lived_then a b c acts w.acts lived w.lived;
     moved_is = is_all ∙ ap (λ x. x || more) is ∙ ap (λ x. is_some_act acts || x) w.moved_is ∙ sym (some_append acts w.acts);
@@ -26,6 +26,7 @@ module _ {Home : Type 0} where
     log = w.log;
     lines = w.lines ∙ lines;
     counted = λ c. w.counted (counted c);
+    size = w.size ∙ sized;
     few = (let parts = count_acts is_line acts w.acts in let none = w.one ∙ ap line_if nay in omega (arith, parts, none, few));
     whole = inr (w.waits nay);
   }
@@ -62,14 +63,15 @@ module _ {Home : Type 0} where
     log = log;
     lines = refl;
     counted = λ c. c;
+    size = refl;
     few = omega arith;
     whole = inr (inl held);
   }
 
   -- all lines of a lap were done
-  pub lines_all : (a b : Told Home) (acts : List Act) (moved : Bool) → Lived a b acts → moved ≡ is_some_act acts → moved ≡ true → b.seen.log ≡ [] → b.lines ≡ a.lines → (IsCounted (living_of a) → IsCounted (living_of b)) → count_by is_line acts ≡ 16
+  pub lines_all : (a b : Told Home) (acts : List Act) (moved : Bool) → Lived a b acts → moved ≡ is_some_act acts → moved ≡ true → b.seen.log ≡ [] → b.lines ≡ a.lines → (IsCounted (living_of a) → IsCounted (living_of b)) → b.seen.log_size ≡ a.seen.log_size → count_by is_line acts ≡ 16
       → Lined a b moved
-  lines_all a b acts moved lived is some log lines counted many = record {
+  lines_all a b acts moved lived is some log lines counted sized many = record {
     acts = acts;
     lived = lived;
     moved_is = is;
@@ -77,6 +79,7 @@ module _ {Home : Type 0} where
     log = log;
     lines = lines;
     counted = counted;
+    size = sized;
     few = omega (arith, many);
     whole = inl many;
   }
@@ -124,6 +127,9 @@ module _ {Home : Type 0} where
       acts = l.acts;
       mid = b;
       lines = l.lived.lives;
+      ported = l.lived.ported;
+      log = l.log;
+      size = l.size;
       few = l.few;
       whole = l.whole;
       near = m.near;
@@ -134,6 +140,7 @@ module _ {Home : Type 0} where
         are = s.reads;
         lives = subst (λ (x : Told Home). LivesBy (living_of x) s.acts (living_of d)) m.is s.lived.lives;
         lanes = s.lanes ∙ ap (λ (x : Told Home). x.seen.lanes) m.is;
+        size = s.size ∙ ap (λ (x : Told Home). x.seen.log_size) m.is;
       };
     }
 

@@ -2,9 +2,9 @@
 --     Lap fixed a d          up to 16 lines, then progress with up to 64 frames, then reads
 --     Laps fixed n a b       a lap, and so many more
 --     InLaps fixed looks a b     a turn: reads, and then a lap and up to 1,024 more
-use Rattle.std.specs.Prelude.{◌≡◌, ℕ, ◌≤◌, ◌⊎◌, zero, suc, Bool, List, Ok, count_by}
+use Rattle.std.specs.Prelude.{◌≡◌, ℕ, ◌≤◌, ◌⊎◌, zero, suc, Bool, List, [], Ok, count_by}
 use Rattle.fab_face.specs.declared.events.Moved.{Moved}
-use Rattle.fab_face.specs.Acts.{Act}
+use Rattle.fab_face.specs.Acts.{Act, Ported}
 use Rattle.fab_face.specs.Held.{Seen}
 use Rattle.fab_face.specs.Answers.{AllAre, Progressed}
 use Rattle.fab_peer.specs.Turns.{Told, living_of, LivesBy, Waits, with_seen, is_line, is_read}
@@ -15,11 +15,17 @@ pub record Reads {Home : Type 0} (a b : Told Home) : Type 0 where
   pub are : AllAre is_read acts
   pub lives : LivesBy (living_of a) acts (living_of b)
   pub lanes : b.seen.lanes ≡ a.seen.lanes
+  pub size : b.seen.log_size ≡ a.seen.log_size
 
+-- Between its lines and its progress the peer is `mid`: the lines lead there from what it was, on its own lanes and with its log emptied. So what the port
+-- did behind them is of the progress.
 pub record Lap {Home : Type 0} (fixed : Bool) (a d : Told Home) : Type 0 where
   pub acts : List Act
   pub mid : Told Home
   pub lines : LivesBy (living_of a) acts (living_of mid)
+  pub ported : Ported a.seen.lanes mid.seen.lanes acts
+  pub log : mid.seen.log ≡ []
+  pub size : mid.seen.log_size ≡ a.seen.log_size
   pub few : count_by is_line acts ≤ 16
   -- no fewer than that while the next line can be done, whatever frames moved before
   pub whole : (count_by is_line acts ≡ 16) ⊎ Waits mid

@@ -226,6 +226,7 @@ pub record WentOn {Home : Type 0} (a b : Told Home) (done moved : Bool) : Type 0
   pub lines : b.lines ≡ a.lines
   pub counted : IsCounted (living_of a) → IsCounted (living_of b)
   pub one : count_by is_line acts ≡ line_if done
+  pub size : b.seen.log_size ≡ a.seen.log_size
   pub waits : done ≡ false → Waits b
 
 -- lines were done, at most 16, and fewer only where the next one waits; what they did, and where they did nothing, that none can be done
@@ -237,6 +238,7 @@ pub record Lined {Home : Type 0} (a b : Told Home) (moved : Bool) : Type 0 where
   pub log : b.seen.log ≡ []
   pub lines : b.lines ≡ a.lines
   pub counted : IsCounted (living_of a) → IsCounted (living_of b)
+  pub size : b.seen.log_size ≡ a.seen.log_size
   pub few : count_by is_line acts ≤ 16
   pub whole : (count_by is_line acts ≡ 16) ⊎ Waits b
 
@@ -296,6 +298,7 @@ pub record ReadOn {Home : Type 0} (a b : Told Home) (any : Bool) : Type 0 where
   pub lines : b.lines ≡ a.lines
   pub results : b.results ≡ a.results
   pub reads : AllAre is_read acts
+  pub size : b.seen.log_size ≡ a.seen.log_size
   pub counted : IsCounted (living_of a) → IsCounted (living_of b)
 
 abbrev pub IsRead : {Home : Type 0} → Seen Home → Type 0

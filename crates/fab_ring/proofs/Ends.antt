@@ -1,5 +1,5 @@
 -- What the steps of one call leave of a seat that speaks for one peer.
-use Rattle.std.proofs.Common.{◌≡◌, ℕ, zero, suc, ◌+◌, ◌*◌, ◌<◌, ◌≤◌, ◌⊎◌, ⊎_elim, inl, inr, min, Bool, true, false, nat_lt, List, [], ◌∷◌, ◌++◌, length, take, sym, refl, ap, ◌∙◌, subst, arith, length-set, get_or-set_same, le_refl}
+use Rattle.std.proofs.Common.{◌≡◌, ℕ, zero, suc, ◌+◌, ◌*◌, ◌%◌, ◌<◌, ◌≤◌, ◌⊎◌, ⊎_elim, inl, inr, min, Bool, true, false, nat_lt, List, [], ◌∷◌, ◌++◌, length, take, sym, refl, ap, ◌∙◌, subst, arith, length-set, get_or-set_same, le_refl}
 use lib.Seq.{set-set, set-get_or}
 use Rattle.std.specs.Prelude.{Option, Some, None, if◌then◌else◌}
 use Rattle.std.proofs.Math.Seq.{take-append_seam}
@@ -16,9 +16,9 @@ use Rattle.fab_table.specs.declared.kinds.Out.{Out}
 use Rattle.fab_table.specs.declared.kinds.In.{In}
 use Rattle.fab_table.specs.declared.kinds.Part.{Part}
 use Rattle.fab_table.specs.declared.kinds.View.{View}
-use Rattle.fab_table.specs.Views.{least, least_from, new_part, new_out, part_at, out_at, with_part, with_out, with_in, posted_one, left_one, refused_one, claimed_one, tried_more, pool_home, lane_of}
+use Rattle.fab_table.specs.Views.{least, least_from, new_part, new_out, part_at, out_at, in_at, with_part, with_out, with_in, posted_one, left_one, refused_one, claimed_one, tried_more, pool_home, lane_of}
 use Rattle.fab_table.specs.Rule.{IsBuf, Says, Fills, cell_of}
-use Rattle.fab_table.specs.Plays.{Sat, next_cell, new_out_view, post_view, refuse_view, claim_view, slot_home}
+use Rattle.fab_table.specs.Plays.{Sat, next_cell, oldest_of, new_out_view, post_view, refuse_view, claim_view, slot_home}
 use Rattle.fab_ring.specs.Tries.{raised, IsTried, IsSent, tried_out}
 
 pub take_all : (n : ℕ) (bytes more : List ℕ) → length bytes ≡ n → take n (bytes ++ more) ≡ bytes
@@ -201,3 +201,7 @@ sent_length o pool size slot ts f (inr t) = t.2.1
 
 pub in_over : (p : Part) (s : ℕ) (u u' : In) (ms ms' : List Move) → with_in (with_in p s u ms) s u' ms' ≡ with_in p s u' ms'
 in_over p s u u' ms ms' = λ i. record { me = p.me; peers = p.peers; room = p.room; pool = p.pool; outs = p.outs; ins = set-set p.ins s u u' i; moves = ms' }
+
+-- where the cell of the oldest frame lies
+pub oldest_at : (n room src me got cell : ℕ) (p : Part) → p.peers ≡ n → p.room ≡ room → p.me ≡ me → got ≡ length (in_at p src).taken → cell ≡ got % room → lane_of n src me * room + cell ≡ oldest_of p src
+oldest_at n room src me got cell p peers wide mine count is = λ i. lane_of (sym peers i) src (sym mine i) * sym wide i + (is ∙ (λ j. count j % sym wide j)) i

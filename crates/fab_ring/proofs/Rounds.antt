@@ -1,5 +1,5 @@
 -- What stays of the cells of the next frames.
-use Rattle.std.proofs.Common.{◌≡◌, ℕ, ◌+◌, ◌*◌, ◌%◌, ◌<◌, ◌≤◌, List, length, get_or, set, replicate, sym, ap, ◌∙◌, subst, arith, mul-le-mul_right, length-set, get_or-set_same, get_or-set_other}
+use Rattle.std.proofs.Common.{◌≡◌, ℕ, ◌%◌, ◌<◌, List, length, get_or, set, replicate, sym, ap, ◌∙◌, subst, length-set, get_or-set_same, get_or-set_other}
 use lib.ListN.{length-replicate}
 use mathlib.Core.Logic.{dite}
 use native.Mathlib.Decide.{ℕ_discrete}
@@ -7,11 +7,6 @@ use Rattle.std.proofs.Math.Nat.{zero-mod}
 use Rattle.std.proofs.lemmas.List.{get_or_default as get_any}
 use Rattle.fab_table.proofs.Seating.{same_all}
 use Rattle.fab_ring.specs.Hands.{Rounds}
-
--- where a lane's cell lies
-pub cell_small : (n room s me cell : ℕ) → n ≤ 64 → room ≤ 1024 → s < n → me < n → cell < room → (s * n + me) * room + cell < 18446744073709551616
-cell_small n room s me cell hn hr hs hm low = let t : ℕ = s * n in let a : t ≤ 64 * n = mul-le-mul_right n (let le : s ≤ 64 = omega arith in le) in let l : ℕ = t + me in let b : l ≤ 4160 = omega arith in
-    let u : ℕ = l * room in let d : u ≤ 4160 * room = mul-le-mul_right room b in let g : u + cell < 18446744073709551616 = omega arith in g
 
 -- a list of numbers and one of cells, with one more of each
 next_cells : (peers room : ℕ) (ks cs : List ℕ) (d k m : ℕ) → d < length ks → d < length cs → m ≡ k % room → ((e : ℕ) → e < peers → get_or cs e 0 ≡ get_or ks e 0 % room)

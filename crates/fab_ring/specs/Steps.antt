@@ -31,7 +31,7 @@ use Rattle.fab_ring.specs.declared.port.RingPort.{RingPort}
 use Rattle.fab_ring.specs.declared.receiving.Oldest.{Oldest}
 use Rattle.fab_ring.specs.declared.sending.Next.{Next}
 use Rattle.fab_ring.specs.Hands.{Tells}
-use Rattle.fab_ring.specs.Ports.{part_of, peers_of, room_of, pool_of, clock_of}
+use Rattle.fab_ring.specs.Ports.{part_of, room_of, pool_of, clock_of}
 use Rattle.fab_ring.specs.Tries.{IsTried, IsTriedFrom, IsMissed, IsSent, tried_out, sent_as}
 
 -- the lane to the peer of the next frame, and the lane from the peer of the oldest

@@ -77,15 +77,15 @@ impl RingPort {
         if put - got >= room || self.clock >= MOST {
             return Err(PostRefused::LaneFull);
         }
-        let lane = me * self.fabric.peers() + to;
         let cell = self.put_cells[dest as usize];
+        let place = self.fabric.cell_place(me, to, cell);
         let next = Next {
             me,
             dest: to,
             put,
             number: self.clock + 1,
             cell,
-            place: (lane * room + cell) as usize,
+            place,
         };
         if !send_next(&self.fabric, &mut self.seat, &next, head, bytes) {
             return Err(PostRefused::PoolFull);
@@ -213,16 +213,13 @@ impl RingPort {
             return;
         }
         self.seek(src as u64);
-        let me = self.me as u64;
         let got = self.gots[src as usize];
-        let room = self.fabric.room();
-        let lane = src as u64 * self.fabric.peers() + me;
         let cell = self.got_cells[src as usize];
         let next = Oldest {
-            me,
+            me: self.me as u64,
             src: src as u64,
             got,
-            place: (lane * room + cell) as usize,
+            cell,
         };
         let found = open_next(
             &self.fabric,

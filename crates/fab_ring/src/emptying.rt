@@ -1,5 +1,5 @@
 //! Lanes emptied through the seat that speaks for all peers.
-ghost use Rattle.std.specs.Prelude.{◌≡◌, ℕ, ◌+◌, ◌<◌, ◌≤◌, ◌^◌, ◌++◌, ◌∷◌, List, [], length, take, Option, None};
+ghost use Rattle.std.specs.Prelude.{◌≡◌, ℕ, ◌+◌, ◌%◌, ◌<◌, ◌≤◌, ◌^◌, ◌++◌, ◌∷◌, List, [], length, take, Option, None};
 ghost use Rattle.fab_base.specs.declared.limits.TheConstants.{FRAME_BYTES};
 ghost use Rattle.fab_base.specs.declared.frames.FrameHead.{FrameHead};
 ghost use Rattle.fab_link.specs.Frames.{last_head, IsLane, MayCome};
@@ -62,7 +62,7 @@ fn take_next(fabric: &LaneTable, seat: &mut PeerSeat, next: &Oldest, spare: Buf)
     requires below { (next.now.me < fabric.now.peers) × (next.now.src < fabric.now.peers) }
     requires count { next.now.got ≡ length (in_of seat.old next.now.me next.now.src).taken }
     requires more { next.now.got < length (out_of seat.old next.now.src next.now.me).posted }
-    requires place { next.now.place ≡ oldest_cell (view_of_seat seat.old) next.now.me next.now.src }
+    requires cell { next.now.cell ≡ next.now.got % fabric.now.room }
     requires spare { length spare ≡ FRAME_BYTES }
     ensures seat { IsSame seat.old seat.new }
     ensures joined { IsJoined fabric.now seat.new }
@@ -71,8 +71,9 @@ fn take_next(fabric: &LaneTable, seat: &mut PeerSeat, next: &Oldest, spare: Buf)
         × MayCome (last_head None (frames_of (in_of seat.old next.now.me next.now.src).taken)) x.frame }
 {
     let _put = fabric.look_put(seat, next.me, next.me, next.src);
+    let place = fabric.cell_place(next.src, next.me, next.cell);
     let mut command = blank();
-    fabric.read(seat, next.place, &mut command);
+    fabric.read(seat, place, &mut command);
     let bytes = bytes_of(fabric, seat, next, &command, spare);
     fabric.give_back(seat, next.me, next.me, next.src, next.got);
     Frame {
@@ -103,14 +104,13 @@ fn empty_lane(
         mut frames,
         mut spares,
     } = inside;
-    let lane = source * fabric.peers() + reader;
     let room = fabric.room();
     while let Some(spare) = spares.pop() {
         let next = Oldest {
             me: reader,
             src: source,
             got: taken,
-            place: (lane * room + taken % room) as usize,
+            cell: taken % room,
         };
         let frame = take_next(fabric, seat, &next, spare);
         frames.push(frame).unwrap();

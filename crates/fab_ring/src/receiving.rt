@@ -1,5 +1,5 @@
 //! What calls of `front` and `advance` do at the seat.
-ghost use Rattle.std.specs.Prelude.{◌≡◌, ◌≢◌, ℕ, ◌+◌, ◌*◌, ◌<◌, ◌≤◌, ◌^◌, true, false, List, [], ◌∷◌, ◌++◌, length, None, Some};
+ghost use Rattle.std.specs.Prelude.{◌≡◌, ◌≢◌, ℕ, ◌+◌, ◌*◌, ◌%◌, ◌<◌, ◌≤◌, ◌^◌, true, false, List, [], ◌∷◌, ◌++◌, length, None, Some};
 ghost use Rattle.fab_base.specs.declared.limits.TheConstants.{FRAME_BYTES};
 ghost use Rattle.atomic_table.specs.Table.{rest};
 ghost use Rattle.fab_link.specs.Frames.{last_head, MayCome};
@@ -17,13 +17,13 @@ ghost use Rattle.fab_ring.specs.declared.receiving.Look.TheVariants.{Empty, Inli
 use fab_base::Buf;
 use fab_table::{Command, LaneTable, PeerSeat};
 
-/// The next frame of a peer: how many were taken before, and its cell's place.
+/// The next frame of a peer: how many were taken before, and its cell among those of the lane.
 #[derive(Clone, Copy, Drop)]
 pub(crate) struct Oldest {
     pub me: u64,
     pub src: u64,
     pub got: u64,
-    pub place: usize,
+    pub cell: u64,
 }
 
 /// What a look for a frame found: none, one that has its bytes itself, or one with a slot.
@@ -34,8 +34,8 @@ pub(crate) enum Look {
     Pooled,
 }
 
-/// Looks for the next frame of a peer. Where there is one its command is copied, and the buffer of its
-/// slot, if it has one, is taken for another.
+/// Looks for the next frame of a peer: before there is one, no more is done than to look. Then its command is copied, and the
+/// buffer of its slot, if it has one, is taken for another.
 pub(crate) fn open_next(
     fabric: &LaneTable,
     seat: &mut PeerSeat,
@@ -47,7 +47,7 @@ pub(crate) fn open_next(
     requires below { next.now.src < fabric.now.peers }
     requires closed { (in_of seat.old 0 next.now.src).opened ≡ None }
     requires count { next.now.got ≡ length (in_of seat.old 0 next.now.src).taken }
-    requires place { next.now.place ≡ oldest_cell (view_of_seat seat.old) 0 next.now.src }
+    requires cell { next.now.cell ≡ next.now.got % fabric.now.room }
     requires spare { length buffer.old ≡ FRAME_BYTES }
     ensures seat { IsSame seat.old seat.new }
     ensures empty { result ≡ Empty → (command.new ≡ command.old) × (buffer.new ≡ buffer.old) × LooksEmpty next.now seat.old seat.new }
@@ -59,7 +59,8 @@ pub(crate) fn open_next(
     if put == next.got {
         return Look::Empty;
     }
-    fabric.read(seat, next.place, command);
+    let place = fabric.cell_place(next.src, next.me, next.cell);
+    fabric.read(seat, place, command);
     let Some(slot) = command.slot else {
         return Look::Inline;
     };

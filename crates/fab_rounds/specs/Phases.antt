@@ -50,6 +50,7 @@ seen_ring e = record {
     in_list = λ s. None;
     moves = Some (moves_of e.port);
   };
+  next = e.next;
 }
 
 abbrev pub past_at : Peer (Whole RingPort) → Past

@@ -12,7 +12,7 @@ use Rattle.fab_table.specs.declared.kinds.View.{View}
 use Rattle.fab_table.specs.Views.{pool_word, pool_home, part_at, lane_of, put_word, got_word}
 use Rattle.fab_table.specs.Rule.{Homes, Lane, LaneOk, Ruled}
 use Rattle.fab_table.specs.Plays.{out_lane, in_lane}
-use Rattle.fab_table.proofs.Rows.{put, pair_once, pair_below}
+use Rattle.fab_table.proofs.Rows.{put, pair_once, pair_below, lane_once}
 use Rattle.fab_table.proofs.Cells.{with_writing}
 use Rattle.fab_table.proofs.Stays.{Elsewhere, mine}
 
@@ -46,16 +46,16 @@ module _ (k : Layout) (s : State Slot View) (r : Ruled k s) where
 
   module _ (id : ℕ) (v : View) (at : get_elem? s.views id ≡ some v) where
     -- a lane is written by one part, and read by one
-    pub same_out : (i d i' d' : ℕ) → i < length v.parts → i' < length v.parts → d < (part_at v i).peers → d' < (part_at v i').peers → out_lane v i' d' ≡ out_lane v i d → (i' ≡ i) × (d' ≡ d)
-    same_out i d i' d' near near' low low' e = let a = mine k s r id v at i near in let b = mine k s r id v at i' near' in let n : ℕ = k.peers in
+    pub same_out : (i d i' d' : ℕ) → i < length v.parts → i' < length v.parts → out_lane v i' d' ≡ out_lane v i d → (i' ≡ i) × (d' ≡ d)
+    same_out i d i' d' near near' e = let a = mine k s r id v at i near in let b = mine k s r id v at i' near' in let n : ℕ = k.peers in
         let e' : lane_of n (part_at v i').me d' ≡ lane_of n (part_at v i).me d = ap (λ (z : ℕ). lane_of z (part_at v i').me d') (sym b.peers) ∙ e ∙ ap (λ (z : ℕ). lane_of z (part_at v i).me d) a.peers in
-        let both = pair_once n (part_at v i').me d' (part_at v i).me d (subst (λ (z : ℕ). d' < z) b.peers low') (subst (λ (z : ℕ). d < z) a.peers low) e' in
+        let both = lane_once n (part_at v i').me d' (part_at v i).me d b.below a.below e' in
         (ap (λ (z : ℕ × ℕ). z.1) (sym b.seated ∙ ap r.spot both.0 ∙ a.seated), both.1)
 
-    pub same_in : (i d i' d' : ℕ) → i < length v.parts → i' < length v.parts → in_lane v i' d' ≡ in_lane v i d → (i' ≡ i) × (d' ≡ d)
-    same_in i d i' d' near near' e = let a = mine k s r id v at i near in let b = mine k s r id v at i' near' in let n : ℕ = k.peers in
+    pub same_in : (i d i' d' : ℕ) → i < length v.parts → i' < length v.parts → d < (part_at v i).peers → d' < (part_at v i').peers → in_lane v i' d' ≡ in_lane v i d → (i' ≡ i) × (d' ≡ d)
+    same_in i d i' d' near near' low low' e = let a = mine k s r id v at i near in let b = mine k s r id v at i' near' in let n : ℕ = k.peers in
         let e' : lane_of n d' (part_at v i').me ≡ lane_of n d (part_at v i).me = ap (λ (z : ℕ). lane_of z d' (part_at v i').me) (sym b.peers) ∙ e ∙ ap (λ (z : ℕ). lane_of z d (part_at v i).me) a.peers in
-        let both = pair_once n d' (part_at v i').me d (part_at v i).me b.below a.below e' in
+        let both = lane_once n d' (part_at v i').me d (part_at v i).me (subst (λ (z : ℕ). d' < z) b.peers low') (subst (λ (z : ℕ). d < z) a.peers low) e' in
         (ap (λ (z : ℕ × ℕ). z.1) (sym b.seated ∙ ap r.spot both.1 ∙ a.seated), both.0)
 
 pub rewritten : (room base put got : ℕ) (homes : Homes) (l : Lane) → LaneOk room base put got homes l → LaneOk room base put got homes (with_writing l l.writing)

@@ -13,7 +13,7 @@ use Rattle.fab_table.specs.declared.kinds.Sent.{Sent}
 use Rattle.fab_table.specs.declared.kinds.Slot.{Slot}
 use Rattle.fab_table.specs.Views.{lane_of, pool_word, pool_home, has_slot}
 use Rattle.fab_table.specs.Rule.{Homes, Home, Lane, Fills, IsBuf, Place, free, claimed, sent, SentOk, PlaceOk, Outstanding, Pools}
-use Rattle.fab_table.proofs.Rows.{at_shorter, put, at_put, pair_once}
+use Rattle.fab_table.proofs.Rows.{at_shorter, put, at_put, lane_once}
 use Rattle.fab_table.proofs.Cells.{with_writing, with_opened, with_post, with_take}
 
 abbrev kind : Place → ℕ
@@ -64,10 +64,10 @@ module _ (n room pool : ℕ) (lane : ℕ → Lane) (place : ℕ → Place) (ws :
     moved place' ws' hs' places claims sents lent others = record {
       each_place = places;
       each_claim = λ s d q a b c. at_put lane l x (λ m y. m ≡ lane_of n s d → y.claim ≡ Some q → (q < n * pool) × (place' q ≡ claimed s d)) (lane_of n s d)
-          (λ is c'. let e = pair_once n S D s d low' b is in subst (λ (z : ℕ × ℕ). (q < n * pool) × (place' q ≡ claimed z.0 z.1)) (λ i. (e.0 i, e.1 i)) (claims q c'))
+          (λ is c'. let e = lane_once n S D s d low a is in subst (λ (z : ℕ × ℕ). (q < n * pool) × (place' q ≡ claimed z.0 z.1)) (λ i. (e.0 i, e.1 i)) (claims q c'))
           (λ ne _ c'. let o = ps.each_claim s d q a b c' in (o.0, others q (claimed s d) ne (omega arith) o.1)) refl c;
       each_sent = λ s d k y q a b c e. at_put lane l x (λ m z. m ≡ lane_of n s d → Outstanding z k y → (q < n * pool) × (place' q ≡ sent s d k)) (lane_of n s d)
-          (λ is c'. let f = pair_once n S D s d low' b is in subst (λ (z : ℕ × ℕ). (q < n * pool) × (place' q ≡ sent z.0 z.1 k)) (λ i. (f.0 i, f.1 i)) (sents k y q c' e))
+          (λ is c'. let f = lane_once n S D s d low a is in subst (λ (z : ℕ × ℕ). (q < n * pool) × (place' q ≡ sent z.0 z.1 k)) (λ i. (f.0 i, f.1 i)) (sents k y q c' e))
           (λ ne _ c'. let o = ps.each_sent s d k y q a b c' e in (o.0, others q (sent s d k) ne (omega arith) o.1)) refl c;
       each_lent = λ s d a b c. at_put lane l x (λ m z. m ≡ lane_of n s d → z.lent ≡ true → (y : Sent) × (z.opened ≡ Some y)) (lane_of n s d) (λ is c'. lent c') (λ ne _ c'. ps.each_lent s d a b c') refl c;
     }

@@ -25,7 +25,7 @@ use Rattle.fab_table.specs.declared.kinds.View.{View}
 use Rattle.fab_table.specs.Views.{frames_of, freed_one, pool_word, pool_home, has_slot, part_at, out_at, in_at, saw_empty, saw_frame, taken_one, lane_of, put_word, got_word}
 use Rattle.fab_table.specs.Rule.{SaidAt, Fills, FilledAt, IsBuf, sent, free, PlaceOk, Homes, Lane, cell_of, LaneOk, InOk, Ruled}
 use Rattle.fab_table.specs.Plays.{frees_pool, FreesAt, free_view, Sat, in_lane, oldest_cell, new_in_view, take_view, Opens, SawPut, saw_put, takes_frame}
-use Rattle.fab_table.proofs.Rows.{put, take_next, pair_below}
+use Rattle.fab_table.proofs.Rows.{put, take_next, pair_below, lane_below}
 use Rattle.fab_table.proofs.Cells.{stays, with_writing, with_opened, with_take, opens, frees}
 use Rattle.fab_table.proofs.Orders.{kept_in, kept_take}
 use Rattle.fab_table.proofs.Pooled.{lane_at, with_lent, pools_look, pools_open, pools_open_slot, pools_take, pools_free}
@@ -49,13 +49,13 @@ looks_put k slots id me w i d near low is idle s r wide at small =
     let v : View = me.0 in let p : Part = part_at v i in let o : In = in_at p d in let known = mine k s r id v at i near in let n : ℕ = k.peers in let room : ℕ = k.room in
     let low' : d < n = subst (λ (z : ℕ). d < z) known.peers low in let l : ℕ = lane_of n d p.me in let lane : Lane = r.lane l in let f = known.ins d low' in
     let got_put : ℕ = get_or s.words w 0 in
-    let ok : LaneOk room (l * room) (get_or s.words (put_word l) 0) (get_or s.words (got_word l) 0) s.homes lane = r.each_lane l (pair_below n n d p.me low' known.below) in let below = pair_below n n d p.me low' known.below in
+    let ok : LaneOk room (l * room) (get_or s.words (put_word l) 0) (get_or s.words (got_word l) 0) s.homes lane = r.each_lane l (lane_below n d p.me low' known.below) in let below = lane_below n d p.me low' known.below in
     let word : w ≡ put_word l = is ∙ ap (λ (z : ℕ). put_word (lane_of z d p.me)) known.peers in
     let put_is : got_put ≡ length lane.posted = ap (λ (z : ℕ). get_or s.words z 0) word ∙ ok.put_is in let behind = ok.behind in
     let long : length o.taken ≡ lane.got = ap length f.0 ∙ length-take-le lane.got lane.posted behind in let room_is : p.room ≡ room = known.wide in let c : ℕ = lane.got in
     let closed : lane.opened ≡ None = sym f.2 ∙ idle in let same : set s.words w got_put ≡ s.words = set-get_or s.words w 0 in
     let told : (n' : Sat) → SawPut me got_put n' i d → saw_put (step slots w 0 0 none) me got_put n' = λ n' one i' d' near' lower e. let h : in_lane v i' d' ≡ in_lane v i d = (let q : put_word (in_lane v i' d') ≡ put_word (in_lane v i d) = sym e ∙ is in omega arith) in
-    let both = same_in k s r id v at i d i' d' near near' h in subst (λ (z : ℕ × ℕ). SawPut me got_put n' z.0 z.1) (λ a. (sym both.0 a, sym both.1 a)) one in
+    let both = same_in k s r id v at i d i' d' near near' low lower h in subst (λ (z : ℕ × ℕ). SawPut me got_put n' z.0 z.1) (λ a. (sym both.0 a, sym both.1 a)) one in
     let all : (a : ℕ) → a < length v.parts → (part_at v a).me ≡ d → got_put ≡ length (out_at (part_at v a) p.me).posted = λ a inside e. let b = mine k s r id v at a inside in
     put_is ∙ (λ j. length (r.lane (lane_of n (sym e j) p.me)).posted) ∙ ap length (sym (b.outs p.me known.below).0) in
     let within_ins : d < length p.ins = subst (λ (z : ℕ). d < z) (sym known.all_ins) low' in
@@ -111,7 +111,7 @@ pub takes_one : (k : Layout) (slots id : ℕ) (me : Sat) (w i d new : ℕ) (x : 
     → Allows (Ruled k) slots id me w (λ _. new) (λ _. takes_frame (step slots w new 0 none) me)
 takes_one k slots id me w i d new x c₀ near low is hand given up carried s r wide at small = let y : Slot = Cell c₀ in
     let v : View = me.0 in let p : Part = part_at v i in let o : In = in_at p d in let known = mine k s r id v at i near in let n : ℕ = k.peers in let room : ℕ = k.room in
-    let low' : d < n = subst (λ (z : ℕ). d < z) known.peers low in let l : ℕ = lane_of n d p.me in let lane : Lane = r.lane l in let f = known.ins d low' in let below = pair_below n n d p.me low' known.below in
+    let low' : d < n = subst (λ (z : ℕ). d < z) known.peers low in let l : ℕ = lane_of n d p.me in let lane : Lane = r.lane l in let f = known.ins d low' in let below = lane_below n d p.me low' known.below in
     let put : ℕ = get_or s.words (put_word l) 0 in let got : ℕ = get_or s.words (got_word l) 0 in
     let ok : LaneOk room (l * room) put got s.homes lane = r.each_lane l below in let word : w ≡ got_word l = is ∙ ap (λ (z : ℕ). got_word (lane_of z d p.me)) known.peers in
     let got_is : got ≡ lane.got = ok.got_is in let behind = ok.behind in let long : length o.taken ≡ lane.got = ap length f.0 ∙ length-take-le lane.got lane.posted behind in let room_is : p.room ≡ room = known.wide in let c : ℕ = lane.got in
@@ -137,7 +137,7 @@ takes_one k slots id me w i d new x c₀ near low is hand given up carried s r w
       subst (λ (cs : List (ℕ × Slot)). Ruled k (stepped s w new id cs (take_view v i d x) gives)) (sym carried)
           (subst (λ (z : ℕ). Ruled k record { words = ws; homes = set s.homes z (some y); views = set s.views id (take_view v i d x) }) (sym here) after),
       λ i' d' x' near' lower e hand'. let h : in_lane v i' d' ≡ in_lane v i d = (let q : got_word (in_lane v i' d') ≡ got_word (in_lane v i d) = sym e ∙ is in omega arith) in
-          let both = same_in k s r id v at i d i' d' near near' h in
+          let both = same_in k s r id v at i d i' d' near near' low lower h in
           let same : x ≡ x' = same_Some x x' (sym hand ∙ (λ a. (in_at (part_at v (sym both.0 a)) (sym both.1 a)).opened) ∙ hand') in
           λ a. (take_view v (sym both.0 a) (sym both.1 a) (same a), rest me.1),
     )
@@ -147,7 +147,7 @@ pub frees_slot : (k : Layout) (slots id : ℕ) (me : Sat) (w i d q : ℕ) (x : S
     → (in_at (part_at me.0 i) d).lent ≡ true → IsBuf b → me.1 ≡ (pool_home (part_at me.0 i).peers (part_at me.0 i).room q, b) ∷ rest me.1 → Allows (Ruled k) slots id me w (λ _. 0) (λ _ n. FreesAt me n i d)
 frees_slot k slots id me w i d q x b near low is hand large has buf carried s r wide at small =
     let v : View = me.0 in let p : Part = part_at v i in let o : In = in_at p d in let known = mine k s r id v at i near in let n : ℕ = k.peers in let room : ℕ = k.room in
-    let low' : d < n = subst (λ (z : ℕ). d < z) known.peers low in let l : ℕ = lane_of n d p.me in let lane : Lane = r.lane l in let f = known.ins d low' in let below = pair_below n n d p.me low' known.below in
+    let low' : d < n = subst (λ (z : ℕ). d < z) known.peers low in let l : ℕ = lane_of n d p.me in let lane : Lane = r.lane l in let f = known.ins d low' in let below = lane_below n d p.me low' known.below in
     let ok : LaneOk room (l * room) (get_or s.words (put_word l) 0) (get_or s.words (got_word l) 0) s.homes lane = r.each_lane l below in let open_is : lane.opened ≡ Some x = sym f.2 ∙ hand in let oldest = ok.open_is x open_is in
     let word : w ≡ pool_word n q = is ∙ ap (λ (z : ℕ). pool_word z q) known.peers in let within_ins : d < length p.ins = subst (λ (z : ℕ). d < z) (sym known.all_ins) low' in let ph : ℕ = pool_home n room q in let all_words = r.all_words in let all_slots = r.all_slots in
     let there : pool_home p.peers p.room q ≡ ph = λ a. pool_home (known.peers a) (known.wide a) q in let lends : lane.lent ≡ true = sym f.3 ∙ has in
@@ -180,7 +180,7 @@ frees_play k slots id me w i d q x b near low is hand large has buf carried s r 
     let one = frees_slot k slots id me w i d q x b near low is hand large has buf carried s r wide at small in
     let where_is : (i d q : ℕ) (x : Sent) → i < length v.parts → d < (part_at v i).peers → (in_at (part_at v i) d).opened ≡ Some x → x.slot ≡ Some q → (in_at (part_at v i) d).lent ≡ true → r.place q ≡ sent d (part_at v i).me (r.lane (lane_of n d (part_at v i).me)).got =
     λ i d q x near low hand large has. let known = mine k s r id v at i near in let low' : d < n = subst (λ (z : ℕ). d < z) known.peers low in let f = known.ins d low' in let lane : Lane = r.lane (lane_of n d (part_at v i).me) in
-    let ok = r.each_lane (lane_of n d (part_at v i).me) (pair_below n n d (part_at v i).me low' known.below) in
+    let ok = r.each_lane (lane_of n d (part_at v i).me) (lane_below n d (part_at v i).me low' known.below) in
     (r.pools.each_sent d (part_at v i).me lane.got x q low' known.below (le_refl lane.got, ok.open_is x (sym f.2 ∙ hand), λ _ _. sym f.3 ∙ has) large).1 in (
       one.0,
       one.1,
@@ -189,6 +189,6 @@ frees_play k slots id me w i d q x b near low is hand large has buf carried s r 
       λ i' d' q' x' near' low₂ e hand' large' has'. let a = mine k s r id v at i near in let c = mine k s r id v at i' near' in
           let qs : q' ≡ q = let f : pool_word n q' ≡ pool_word n q = ap (λ (z : ℕ). pool_word z q') (sym c.peers) ∙ sym e ∙ is ∙ ap (λ (z : ℕ). pool_word z q) a.peers in let sq : ℕ = n * n in let f' : sq * 32 + q' * 16 ≡ sq * 32 + q * 16 = f in omega arith in
           let lanes : lane_of n d' (part_at v i').me ≡ lane_of n d (part_at v i).me = ap (lane_at n) (sym (where_is i' d' q' x' near' low₂ hand' large' has') ∙ ap r.place qs ∙ where_is i d q x near low hand large has) in
-          let both = same_in k s r id v at i d i' d' near near' (ap (λ (z : ℕ). lane_of z d' (part_at v i').me) c.peers ∙ lanes ∙ ap (λ (z : ℕ). lane_of z d (part_at v i).me) (sym a.peers)) in
+          let both = same_in k s r id v at i d i' d' near near' low low₂ (ap (λ (z : ℕ). lane_of z d' (part_at v i').me) c.peers ∙ lanes ∙ ap (λ (z : ℕ). lane_of z d (part_at v i).me) (sym a.peers)) in
           subst (λ (z : ℕ × ℕ). FreesAt me (one.0, carried_after me.1 one.1) z.0 z.1) (λ a. (sym both.0 a, sym both.1 a)) one.4,
     )

@@ -26,7 +26,7 @@ use Rattle.fab_table.specs.declared.kinds.View.{View}
 use Rattle.fab_table.specs.Views.{frames_of, claimed_one, refused_one, left_one, pool_word, pool_home, part_at, out_at, in_at, saw_full, saw_room, posted_one, lane_of, put_word, got_word, still_word}
 use Rattle.fab_table.specs.Rule.{Repays, IsCell, CellAt, said_inline, said_pooled, Fills, IsBuf, greatest, Place, sent, claimed, free, PlaceOk, Homes, Lane, cell_of, LaneOk, Ruled}
 use Rattle.fab_table.specs.Plays.{claims, ClaimsAt, reserves_cell, ReservesAt, leaves, posts_pooled, claim_view, slot_home, most, Sat, out_lane, next_cell, new_out_view, post_view, SawGot, saw_got, posts}
-use Rattle.fab_table.proofs.Rows.{put, pair_once, pair_below}
+use Rattle.fab_table.proofs.Rows.{put, pair_once, pair_below, lane_below}
 use Rattle.fab_table.proofs.Cells.{stays, with_writing, with_post, reserves, joins, returns}
 use Rattle.fab_table.proofs.Orders.{kept_out, kept_post}
 use Rattle.fab_table.proofs.Pooled.{with_claim, pools_look, pools_post, pools_post_slot, pools_claim}
@@ -62,13 +62,13 @@ pub looks_got : (k : Layout) (slots id : ℕ) (me : Sat) (w i d : ℕ) → i < l
 looks_got k slots id me w i d near low is idle s r wide at small =
     let v : View = me.0 in let p : Part = part_at v i in let o : Out = out_at p d in let known = mine k s r id v at i near in let n : ℕ = k.peers in let room : ℕ = k.room in
     let low' : d < n = subst (λ (z : ℕ). d < z) known.peers low in let l : ℕ = lane_of n p.me d in let lane : Lane = r.lane l in let x = known.outs d low' in
-    let ok : LaneOk room (l * room) (get_or s.words (put_word l) 0) (get_or s.words (got_word l) 0) s.homes lane = r.each_lane l (pair_below n n p.me d known.below low') in
+    let ok : LaneOk room (l * room) (get_or s.words (put_word l) 0) (get_or s.words (got_word l) 0) s.homes lane = r.each_lane l (lane_below n p.me d known.below low') in
     let g : ℕ = get_or s.words w 0 in let word : w ≡ got_word l = is ∙ ap (λ (z : ℕ). got_word (lane_of z p.me d)) known.peers in
     let got_is : g ≡ lane.got = ap (λ (z : ℕ). get_or s.words z 0) word ∙ ok.got_is in let within = ok.within in let behind = ok.behind in
     let long : length o.posted ≡ length lane.posted = ap length x.0 in let room_is : p.room ≡ room = known.wide in let c : ℕ = length lane.posted in
     let closed : lane.writing ≡ false = sym x.2 ∙ idle in let same : set s.words w g ≡ s.words = set-get_or s.words w 0 in
     let told : (n' : Sat) → SawGot me g n' i d → saw_got (step slots w 0 0 none) me g n' = λ n' one i' d' near' lower e. let h : out_lane v i' d' ≡ out_lane v i d = (let q : got_word (out_lane v i' d') ≡ got_word (out_lane v i d) = sym e ∙ is in omega arith) in
-    let both = same_out k s r id v at i d i' d' near near' low lower h in subst (λ (z : ℕ × ℕ). SawGot me g n' z.0 z.1) (λ a. (sym both.0 a, sym both.1 a)) one in
+    let both = same_out k s r id v at i d i' d' near near' h in subst (λ (z : ℕ × ℕ). SawGot me g n' z.0 z.1) (λ a. (sym both.0 a, sym both.1 a)) one in
     let within_outs : d < length p.outs = subst (λ (z : ℕ). d < z) (sym known.all_outs) low' in
     let refuse : ((g + p.room ≤ length o.posted) ⊎ (most ≤ greatest 0 p.moves)) → (nw : View) × (a : Act Slot) × Valid s.homes me.1 a × Ruled k (stepped s w g id me.1 nw a) × saw_got (step slots w 0 0 none) me g (nw, carried_after me.1 a) = λ why. let o' : Out = saw_full o g in (
       new_out_view v i d o',
@@ -86,7 +86,7 @@ looks_got k slots id me w i d near low is idle s r wide at small =
       takes slot (Cell y.0),
       y.1,
       subst (λ (ws : List ℕ). Ruled k record { words = ws; homes = hs; views = set s.views id (new_out_view v i d o') }) (sym same)
-          (out_moves k s r id v at i near d (with_writing lane true) o' p.moves s.words hs r.place (pools_look n room k.pool r.lane r.place s.words s.homes r.pools p.me d known.below low' true s.words hs (λ q. refl) (pool_same k s r l (c % room) none (pair_below n n p.me d known.below low') (mod-lt c r.some_room))) low' refl (length-set s.homes slot none) (one_slot k s r l (c % room) none hs (mod-lt c r.some_room) refl)
+          (out_moves k s r id v at i near d (with_writing lane true) o' p.moves s.words hs r.place (pools_look n room k.pool r.lane r.place s.words s.homes r.pools p.me d known.below low' true s.words hs (λ q. refl) (pool_same k s r l (c % room) none (lane_below n p.me d known.below low') (mod-lt c r.some_room))) low' refl (length-set s.homes slot none) (one_slot k s r l (c % room) none hs (mod-lt c r.some_room) refl)
           (reserves room (l * room) (get_or s.words (put_word l) 0) (get_or s.words (got_word l) 0) s.homes lane ok space)
           (x.0, (let q : g ≤ lane.got = omega arith in q), refl, x.3) (λ u h. h) (kept_out p known.kept d o' within_outs refl)),
       told _ (omega arith, omega arith, (λ why. absurd (⊎_elim (λ q. omega arith) (λ q. omega arith) why)), (λ _ _. (y.0, λ a. (new_out_view v i d o', (here a, Cell y.0) ∷ me.1)))),
@@ -98,7 +98,7 @@ pub reserves_one : (k : Layout) (slots id : ℕ) (me : Sat) (w i d : ℕ) → i 
     → length (out_at (part_at me.0 i) d).posted < (out_at (part_at me.0 i) d).got_seen + (part_at me.0 i).room → Allows (Ruled k) slots id me w (λ n. n) (λ _. reserves_cell (step slots w 0 0 none) me)
 reserves_one k slots id me w i d near low is idle seen s r wide at small =
     let v : View = me.0 in let p : Part = part_at v i in let o : Out = out_at p d in let known = mine k s r id v at i near in let n : ℕ = k.peers in let room : ℕ = k.room in
-    let low' : d < n = subst (λ (z : ℕ). d < z) known.peers low in let l : ℕ = lane_of n p.me d in let lane : Lane = r.lane l in let x = known.outs d low' in let below = pair_below n n p.me d known.below low' in
+    let low' : d < n = subst (λ (z : ℕ). d < z) known.peers low in let l : ℕ = lane_of n p.me d in let lane : Lane = r.lane l in let x = known.outs d low' in let below = lane_below n p.me d known.below low' in
     let ok : LaneOk room (l * room) (get_or s.words (put_word l) 0) (get_or s.words (got_word l) 0) s.homes lane = r.each_lane l below in
     let same : set s.words w (get_or s.words w 0) ≡ s.words = set-get_or s.words w 0 in let closed : lane.writing ≡ false = sym x.2 ∙ idle in
     let long : length o.posted ≡ length lane.posted = ap length x.0 in let room_is : p.room ≡ room = known.wide in let c : ℕ = length lane.posted in let c_near : c % room < room = mod-lt c r.some_room in
@@ -114,7 +114,7 @@ reserves_one k slots id me w i d near low is idle seen s r wide at small =
           (reserves room (l * room) (get_or s.words (put_word l) 0) (get_or s.words (got_word l) 0) s.homes lane ok space)
           (x.0, x.1, refl, x.3) (λ u h. h) (kept_out p known.kept d o' within_outs refl)),
       λ i' d' near' lower e. let h : out_lane v i' d' ≡ out_lane v i d = (let q : still_word (out_lane v i' d') ≡ still_word (out_lane v i d) = sym e ∙ is in omega arith) in
-          let both = same_out k s r id v at i d i' d' near near' low lower h in
+          let both = same_out k s r id v at i d i' d' near near' h in
           subst (λ (z : ℕ × ℕ). ReservesAt me (new_out_view v i d o', (slot, Cell y.0) ∷ me.1) z.0 z.1) (λ a. (sym both.0 a, sym both.1 a)) (y.0, λ a. (new_out_view v i d o', (here a, Cell y.0) ∷ me.1)),
     )
 
@@ -125,7 +125,7 @@ pub posts_one : (k : Layout) (slots id : ℕ) (me : Sat) (w i d new : ℕ) (c₀
 unfolding command_in command_or
 posts_one k slots id me w i d new c₀ near low is hand up next idle inline comes owed sized carried s r wide at small = let x : Sent = said_inline c₀ in
     let v : View = me.0 in let p : Part = part_at v i in let o : Out = out_at p d in let known = mine k s r id v at i near in let n : ℕ = k.peers in let room : ℕ = k.room in
-    let low' : d < n = subst (λ (z : ℕ). d < z) known.peers low in let l : ℕ = lane_of n p.me d in let lane : Lane = r.lane l in let f = known.outs d low' in let below = pair_below n n p.me d known.below low' in
+    let low' : d < n = subst (λ (z : ℕ). d < z) known.peers low in let l : ℕ = lane_of n p.me d in let lane : Lane = r.lane l in let f = known.outs d low' in let below = lane_below n p.me d known.below low' in
     let put : ℕ = get_or s.words (put_word l) 0 in let got : ℕ = get_or s.words (got_word l) 0 in
     let ok : LaneOk room (l * room) put got s.homes lane = r.each_lane l below in let word : w ≡ put_word l = is ∙ ap (λ (z : ℕ). put_word (lane_of z p.me d)) known.peers in
     let put_is : put ≡ length lane.posted = ok.put_is in let long : length o.posted ≡ length lane.posted = ap length f.0 in let room_is : p.room ≡ room = known.wide in let c : ℕ = length lane.posted in
@@ -150,7 +150,7 @@ posts_one k slots id me w i d new c₀ near low is hand up next idle inline come
       subst (λ (cs : List (ℕ × Slot)). Ruled k (stepped s w new id cs (post_view v i d x) gives)) (sym carried)
           (subst (λ (z : ℕ). Ruled k record { words = ws; homes = set s.homes z y; views = set s.views id (post_view v i d x) }) (sym here) after),
       λ i' d' x' near' lower e carried'. let h : out_lane v i' d' ≡ out_lane v i d = (let q : put_word (out_lane v i' d') ≡ put_word (out_lane v i d) = sym e ∙ is in omega arith) in
-          let both = same_out k s r id v at i d i' d' near near' low lower h in let same : c₀ ≡ x' = ap (command_in c₀) (sym carried ∙ carried') in
+          let both = same_out k s r id v at i d i' d' near near' h in let same : c₀ ≡ x' = ap (command_in c₀) (sym carried ∙ carried') in
           λ a. (post_view v (sym both.0 a) (sym both.1 a) (said_inline (same a)), rest me.1),
     )
 
@@ -167,7 +167,7 @@ pub posts_pooled_one : (k : Layout) (slots id : ℕ) (me : Sat) (w i d new q : �
 unfolding command_in command_or buffer_in buffer_or
 posts_pooled_one k slots id me w i d new q c₀ b more near low is hand up next held large comes owed sized carried s r wide at small = let x : Sent = said_pooled c₀ b in let fits : Fills x (Pool b) = (sized, refl) in
     let v : View = me.0 in let p : Part = part_at v i in let o : Out = out_at p d in let known = mine k s r id v at i near in let n : ℕ = k.peers in let room : ℕ = k.room in
-    let low' : d < n = subst (λ (z : ℕ). d < z) known.peers low in let l : ℕ = lane_of n p.me d in let lane : Lane = r.lane l in let f = known.outs d low' in let below = pair_below n n p.me d known.below low' in
+    let low' : d < n = subst (λ (z : ℕ). d < z) known.peers low in let l : ℕ = lane_of n p.me d in let lane : Lane = r.lane l in let f = known.outs d low' in let below = lane_below n p.me d known.below low' in
     let was_put : ℕ = get_or s.words (put_word l) 0 in let got : ℕ = get_or s.words (got_word l) 0 in
     let ok : LaneOk room (l * room) was_put got s.homes lane = r.each_lane l below in let word : w ≡ put_word l = is ∙ ap (λ (z : ℕ). put_word (lane_of z p.me d)) known.peers in
     let put_is : was_put ≡ length lane.posted = ok.put_is in let long : length o.posted ≡ length lane.posted = ap length f.0 in let room_is : p.room ≡ room = known.wide in let c : ℕ = length lane.posted in
@@ -197,7 +197,7 @@ posts_pooled_one k slots id me w i d new q c₀ b more near low is hand up next 
           (subst (λ (z : ℕ × ℕ). Ruled k record { words = ws; homes = set (set s.homes z.1 (some (Pool b))) z.0 y; views = set s.views id (post_view v i d x) }) (λ a. (sym here a, pool_home (sym known.peers a) (sym room_is a) q))
           (subst (λ (h : Homes). Ruled k record { words = ws; homes = h; views = set s.views id (post_view v i d x) }) (set_comm s.homes slot ph y (some (Pool b)) (cell_apart n room l (c % room) q below c_near)) after)),
       λ i' d' x' a' b' near' lower e carried'. let h : out_lane v i' d' ≡ out_lane v i d = (let q : put_word (out_lane v i' d') ≡ put_word (out_lane v i d) = sym e ∙ is in omega arith) in
-          let both = same_out k s r id v at i d i' d' near near' low lower h in let same : c₀ ≡ x' = ap (λ (z : List (ℕ × Slot)). command_in c₀ (rest z)) (sym carried ∙ carried') in let same_bytes : b ≡ b' = ap (buffer_in b) (sym carried ∙ carried') in
+          let both = same_out k s r id v at i d i' d' near near' h in let same : c₀ ≡ x' = ap (λ (z : List (ℕ × Slot)). command_in c₀ (rest z)) (sym carried ∙ carried') in let same_bytes : b ≡ b' = ap (buffer_in b) (sym carried ∙ carried') in
           λ a. (post_view v (sym both.0 a) (sym both.1 a) (said_pooled (same a) (same_bytes a)), rest (rest me.1)),
     )
 
@@ -206,7 +206,7 @@ pub claims_slot : (k : Layout) (slots id : ℕ) (me : Sat) (w i d j q new : ℕ)
     → Allows (Ruled k) slots id me w (λ z. either (eqb z 0) new z) (λ r n. ClaimsAt me r n i d j q)
 claims_slot k slots id me w i d j q new near low is low_q idle up s r wide at small =
     let v : View = me.0 in let p : Part = part_at v i in let o : Out = out_at p d in let known = mine k s r id v at i near in let n : ℕ = k.peers in let room : ℕ = k.room in
-    let low' : d < n = subst (λ (z : ℕ). d < z) known.peers low in let l : ℕ = lane_of n p.me d in let lane : Lane = r.lane l in let f = known.outs d low' in let below = pair_below n n p.me d known.below low' in
+    let low' : d < n = subst (λ (z : ℕ). d < z) known.peers low in let l : ℕ = lane_of n p.me d in let lane : Lane = r.lane l in let f = known.outs d low' in let below = lane_below n p.me d known.below low' in
     let ok : LaneOk room (l * room) (get_or s.words (put_word l) 0) (get_or s.words (got_word l) 0) s.homes lane = r.each_lane l below in
     let word : w ≡ pool_word n q = is ∙ ap (λ (z : ℕ). pool_word z q) known.peers in let found : ℕ = get_or s.words w 0 in let found_is : found ≡ get_or s.words (pool_word n q) 0 = ap (λ (z : ℕ). get_or s.words z 0) word in
     let within_outs : d < length p.outs = subst (λ (z : ℕ). d < z) (sym known.all_outs) low' in let ph : ℕ = pool_home n room q in let all_words = r.all_words in
@@ -264,7 +264,7 @@ pub leaves_one : (k : Layout) (slots id : ℕ) (me : Sat) (w i d : ℕ) (c₀ : 
     → me.1 ≡ (next_cell me.0 i d, Cell c₀) ∷ rest me.1 → Allows (Ruled k) slots id me w (λ n. n) (λ _. leaves (step slots w 0 0 none) me)
 leaves_one k slots id me w i d c₀ near low is hand carried s r wide at small =
     let v : View = me.0 in let p : Part = part_at v i in let o : Out = out_at p d in let known = mine k s r id v at i near in let n : ℕ = k.peers in let room : ℕ = k.room in
-    let low' : d < n = subst (λ (z : ℕ). d < z) known.peers low in let l : ℕ = lane_of n p.me d in let lane : Lane = r.lane l in let f = known.outs d low' in let below = pair_below n n p.me d known.below low' in
+    let low' : d < n = subst (λ (z : ℕ). d < z) known.peers low in let l : ℕ = lane_of n p.me d in let lane : Lane = r.lane l in let f = known.outs d low' in let below = lane_below n p.me d known.below low' in
     let g : ℕ = get_or s.words w 0 in let same : set s.words w g ≡ s.words = set-get_or s.words w 0 in
     let ok : LaneOk room (l * room) (get_or s.words (put_word l) 0) (get_or s.words (got_word l) 0) s.homes lane = r.each_lane l below in
     let long : length o.posted ≡ length lane.posted = ap length f.0 in let room_is : p.room ≡ room = known.wide in let c : ℕ = length lane.posted in
@@ -284,5 +284,5 @@ leaves_one k slots id me w i d c₀ near low is hand carried s r wide at small =
           (subst (λ (cs : List (ℕ × Slot)). Ruled k record { words = s.words; homes = put_back s.homes cs; views = set s.views id (new_out_view v i d o') }) (sym carried)
           (subst (λ (z : ℕ). Ruled k record { words = s.words; homes = set s.homes z y; views = set s.views id (new_out_view v i d o') }) (sym here) after)),
       λ i' d' near' lower e. let h : out_lane v i' d' ≡ out_lane v i d = (let q : got_word (out_lane v i' d') ≡ got_word (out_lane v i d) = sym e ∙ is in omega arith) in
-          let both = same_out k s r id v at i d i' d' near near' low lower h in λ a. (new_out_view v (sym both.0 a) (sym both.1 a) (left_one (out_at (part_at v (sym both.0 a)) (sym both.1 a))), rest me.1),
+          let both = same_out k s r id v at i d i' d' near near' h in λ a. (new_out_view v (sym both.0 a) (sym both.1 a) (left_one (out_at (part_at v (sym both.0 a)) (sym both.1 a))), rest me.1),
     )

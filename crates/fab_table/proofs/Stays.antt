@@ -1,5 +1,5 @@
 -- What stays of the rule when one lane and one part move.
-use Rattle.std.proofs.Common.{◌≡◌, ℕ, ◌+◌, ◌*◌, ◌%◌, ◌<◌, ◌≢◌, ⊎_elim, List, length, get_or, set, sym, refl, ap, ◌∙◌, subst, arith, length-set, mod-lt}
+use Rattle.std.proofs.Common.{◌≡◌, ℕ, ◌+◌, ◌*◌, ◌%◌, ◌<◌, ◌≢◌, ⊎_elim, List, length, get_or, set, sym, refl, ap, ◌∙◌, subst, length-set, mod-lt}
 use mathlib.Core.Option.{some}
 use lib.ListN.{get_elem?}
 use Rattle.atomic_table.specs.Table.{State}
@@ -13,7 +13,7 @@ use Rattle.fab_table.specs.declared.kinds.Part.{Part}
 use Rattle.fab_table.specs.declared.kinds.View.{View}
 use Rattle.fab_table.specs.Views.{new_part, new_out, new_in, part_at, out_at, in_at, with_part, with_out, with_in, lane_of, put_word, got_word}
 use Rattle.fab_table.specs.Rule.{Place, Pools, Homes, Lane, LaneOk, OutOk, InOk, Kept, PartOk, Ruled}
-use Rattle.fab_table.proofs.Rows.{each_set, put, at_put, pair_once}
+use Rattle.fab_table.proofs.Rows.{each_set, put, at_put, lane_once}
 use Rattle.fab_table.proofs.Cells.{stays}
 
 abbrev pub St : Type 0
@@ -87,7 +87,7 @@ module _ (k : Layout) (s : St) (r : Ruled k s) where
           all_ins = mine.all_ins;
           outs = λ e within. each_set (λ c (z : Out). c < n → OutOk (put r.lane l x (lane_of n p.me c)) z) p.outs d o (new_out 0)
               (λ _. at_put r.lane l x (λ m y. m ≡ l → OutOk y o) l (λ _. fine) (λ ne. absurd (ne refl)) refl)
-              (λ c ne _ near'. at_put r.lane l x (λ m y. m ≡ lane_of n p.me c → OutOk y (out_at p c)) (lane_of n p.me c) (λ is. absurd (ne (omega arith))) (λ _ _. mine.outs c near') refl)
+              (λ c ne _ near'. at_put r.lane l x (λ m y. m ≡ lane_of n p.me c → OutOk y (out_at p c)) (lane_of n p.me c) (λ is. absurd (ne (sym (lane_once n p.me d p.me c mine.below mine.below is).1))) (λ _ _. mine.outs c near') refl)
               e (subst (λ (z : ℕ). e < z) (sym mine.all_outs) within) within;
           ins = λ c near'. at_put r.lane l x (λ m y. m ≡ lane_of n c p.me → InOk y (in_at p c)) (lane_of n c p.me)
               (λ is. keep (in_at p c) (subst (λ (z : ℕ). InOk (r.lane z) (in_at p c)) (sym is) (mine.ins c near'))) (λ _ _. mine.ins c near') refl;
@@ -102,7 +102,7 @@ module _ (k : Layout) (s : St) (r : Ruled k s) where
           all_outs = ok'.all_outs;
           all_ins = ok'.all_ins;
           outs = λ c near'. at_put r.lane l x (λ m y. m ≡ lane_of n q.me c → OutOk y (out_at q c)) (lane_of n q.me c)
-              (λ is. absurd (ne (sym ok'.seated ∙ ap r.spot (sym (pair_once n p.me d q.me c near near' is).0) ∙ mine.seated))) (λ _ _. ok'.outs c near') refl;
+              (λ is. absurd (ne (sym ok'.seated ∙ ap r.spot (sym (lane_once n p.me d q.me c mine.below ok'.below is).0) ∙ mine.seated))) (λ _ _. ok'.outs c near') refl;
           ins = λ c near'. at_put r.lane l x (λ m y. m ≡ lane_of n c q.me → InOk y (in_at q c)) (lane_of n c q.me)
               (λ is. keep (in_at q c) (subst (λ (z : ℕ). InOk (r.lane z) (in_at q c)) (sym is) (ok'.ins c near'))) (λ _ _. ok'.ins c near') refl;
           kept = ok'.kept;
@@ -124,7 +124,7 @@ module _ (k : Layout) (s : St) (r : Ruled k s) where
           all_ins = length-set p.ins d o ∙ mine.all_ins;
           ins = λ e within. each_set (λ c (z : In). c < n → InOk (put r.lane l x (lane_of n c p.me)) z) p.ins d o new_in
               (λ _. at_put r.lane l x (λ m y. m ≡ l → InOk y o) l (λ _. fine) (λ ne. absurd (ne refl)) refl)
-              (λ c ne _ near'. at_put r.lane l x (λ m y. m ≡ lane_of n c p.me → InOk y (in_at p c)) (lane_of n c p.me) (λ is. absurd (ne (sym (pair_once n d p.me c p.me mine.below mine.below is).0))) (λ _ _. mine.ins c near') refl)
+              (λ c ne _ near'. at_put r.lane l x (λ m y. m ≡ lane_of n c p.me → InOk y (in_at p c)) (lane_of n c p.me) (λ is. absurd (ne (sym (lane_once n d p.me c p.me near near' is).0))) (λ _ _. mine.ins c near') refl)
               e (subst (λ (z : ℕ). e < z) (sym mine.all_ins) within) within;
           outs = λ c near'. at_put r.lane l x (λ m y. m ≡ lane_of n p.me c → OutOk y (out_at p c)) (lane_of n p.me c)
               (λ is. keep (out_at p c) (subst (λ (z : ℕ). OutOk (r.lane z) (out_at p c)) (sym is) (mine.outs c near'))) (λ _ _. mine.outs c near') refl;
@@ -139,7 +139,7 @@ module _ (k : Layout) (s : St) (r : Ruled k s) where
           all_outs = ok'.all_outs;
           all_ins = ok'.all_ins;
           ins = λ c near'. at_put r.lane l x (λ m y. m ≡ lane_of n c q.me → InOk y (in_at q c)) (lane_of n c q.me)
-              (λ is. absurd (ne (sym ok'.seated ∙ ap r.spot (sym (pair_once n d p.me c q.me mine.below ok'.below is).1) ∙ mine.seated))) (λ _ _. ok'.ins c near') refl;
+              (λ is. absurd (ne (sym ok'.seated ∙ ap r.spot (sym (lane_once n d p.me c q.me near near' is).1) ∙ mine.seated))) (λ _ _. ok'.ins c near') refl;
           outs = λ c near'. at_put r.lane l x (λ m y. m ≡ lane_of n q.me c → OutOk y (out_at q c)) (lane_of n q.me c)
               (λ is. keep (out_at q c) (subst (λ (z : ℕ). OutOk (r.lane z) (out_at q c)) (sym is) (ok'.outs c near'))) (λ _ _. ok'.outs c near') refl;
           kept = ok'.kept;

@@ -134,10 +134,11 @@ freed_one u = record { taken = u.taken; put_seen = u.put_seen; empty_seen = u.em
 abbrev pub taken_one : In → Sent → In
 taken_one u x = record { taken = u.taken ++ x ∷ []; put_seen = u.put_seen; empty_seen = u.empty_seen; empty_at = u.empty_at; opened = None; lent = false }
 
--- the lane from s to d, among n peers, and its two words, each on a cache line of its own
+-- the lane from s to d, among n peers: those to one receiver lie side by side
 abbrev pub lane_of : ℕ → ℕ → ℕ → ℕ
-lane_of n s d = s * n + d
+lane_of n s d = d * n + s
 
+-- its two words, each on a cache line of its own
 abbrev pub put_word : ℕ → ℕ
 put_word l = l * 32
 

@@ -1,5 +1,5 @@
-//! Where the words of the lanes and pools stand.
-ghost use Rattle.std.specs.Prelude.{◌≡◌, ◌*◌, ◌<◌, ◌≤◌};
+//! Where the words of the lanes and pools stand, and the cells of the lanes.
+ghost use Rattle.std.specs.Prelude.{◌≡◌, ◌+◌, ◌*◌, ◌<◌, ◌≤◌};
 ghost use Rattle.fab_table.specs.Views.{lane_of, put_word, got_word, still_word, pool_word, word_count};
 
 use crate::lane_table::LaneTable;
@@ -23,13 +23,32 @@ pub(crate) fn count_words(peers: u64, pool: u64) -> usize
 }
 
 impl LaneTable {
+    /// The number of a lane. Those to one receiver lie side by side, since it looks at all of them in turn: words that lay far
+    /// apart would share a few places of its cache.
+    fn lane(&self, src: u64, dest: u64) -> u64
+        requires { (src < self.now.peers) × (dest < self.now.peers) }
+        ensures number { result ≡ lane_of self.now.peers src dest }
+        ensures below { result < self.now.peers * self.now.peers }
+    {
+        dest * self.peers + src
+    }
+
+    /// The place of a cell of a lane, by the cell's number there: less than [`room`](LaneTable::room).
+    pub fn cell_place(&self, src: u64, dest: u64, cell: u64) -> usize
+        requires lane { (src < self.now.peers) × (dest < self.now.peers) }
+        requires cell { cell < self.now.room }
+        ensures { result ≡ lane_of self.now.peers src dest * self.now.room + cell }
+    {
+        (self.lane(src, dest) * self.room + cell) as usize
+    }
+
     /// The word that counts the frames posted to a lane.
     pub(crate) fn put_word(&self, src: u64, dest: u64) -> usize
         requires { (src < self.now.peers) × (dest < self.now.peers) }
         ensures word { result ≡ put_word (lane_of self.now.peers src dest) }
         ensures inside { result < self.now.table.shared.table_id.words }
     {
-        ((src * self.peers + dest) * LANE) as usize
+        (self.lane(src, dest) * LANE) as usize
     }
 
     /// The word that counts the frames taken of a lane.
@@ -38,7 +57,7 @@ impl LaneTable {
         ensures word { result ≡ got_word (lane_of self.now.peers src dest) }
         ensures inside { result < self.now.table.shared.table_id.words }
     {
-        ((src * self.peers + dest) * LANE + APART) as usize
+        (self.lane(src, dest) * LANE + APART) as usize
     }
 
     /// The word of a lane that nobody writes: it stays in the sender's cache.
@@ -47,7 +66,7 @@ impl LaneTable {
         ensures word { result ≡ still_word (lane_of self.now.peers src dest) }
         ensures inside { result < self.now.table.shared.table_id.words }
     {
-        ((src * self.peers + dest) * LANE + STILL) as usize
+        (self.lane(src, dest) * LANE + STILL) as usize
     }
 
     /// The word of a slot, among those of all pools.

@@ -25,6 +25,8 @@ pub use Rattle.fab_collectives.specs.Folded
 pub use Rattle.fab_face.specs.Held
 pub use Rattle.fab_face.specs.Acts
 pub use Rattle.fab_face.specs.Answers
+pub use Rattle.fab_face.specs.Circle
+pub use Rattle.fab_face.specs.Fairness
 pub use Rattle.fab_face.specs.Probes
 pub use Rattle.fab_domain.specs.Domain
 pub use Rattle.fab_domain.specs.Seen

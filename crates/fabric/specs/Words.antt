@@ -18,9 +18,12 @@ pub use Rattle.fab_base.specs.declared.faults.Busy.TheVariants.{TxFull, PostedFu
 pub use Rattle.fab_base.specs.declared.items.Access.{Access}
 pub use Rattle.fab_base.specs.declared.peers.LineResult.{LineResult}
 pub use Rattle.fab_base.specs.declared.peers.LineResult.TheVariants.{Refused}
+pub use Rattle.fab_app.specs.declared.moving.Next.{Next}
 pub use Rattle.fab_app.specs.declared.completions.Polled.{Polled}
 pub use Rattle.fab_app.specs.declared.completions.Polled.TheVariants.{Entry as PolledEntry, Error as PolledError, Idle as PolledIdle, More as PolledMore}
 pub use Rattle.fab_face.specs.declared.events.Moved.{Moved}
+pub use Rattle.fab_face.specs.declared.lanes.Lane.{Lane}
+pub use Rattle.fab_face.specs.declared.lanes.Lane.TheVariants.{To as LaneTo, From as LaneFrom}
 pub use Rattle.fab_base.specs.declared.faults.NoMemory.{NoMemory as Lacks}
 pub use Rattle.fab_base.specs.declared.operations.Receive.{Receive}
 pub use Rattle.fab_base.specs.declared.operations.Arrival.{Arrival}

@@ -38,6 +38,7 @@ pub use fab_bell::{Sleeper, Sleeps};
 pub use fab_collectives::{
     COLLECTIVE, Collective, DOUBLING_FROM, Group, MOST_SHARE, is_reducing, law_folded, law_offered,
 };
+pub use fab_face::laws::law_turns;
 pub use fab_face::probing::Probed;
 pub use fab_library_laws::{Unclosed, close_all, law_library_heard};
 pub use fab_topology::{law_begun, law_rounds};

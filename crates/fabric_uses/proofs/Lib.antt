@@ -6,3 +6,4 @@ pub mod Refusing
 pub mod Registering
 pub mod Answering
 pub mod Lateness
+pub mod Turns

@@ -14,21 +14,24 @@
 --     posted e, posted_after p e     the receives posted; the same once this one is posted too
 --     bytes_under key e              the bytes of the region under this key
 --     Echoes fixed budget old new    the message that was read next went back to its sender, with its bytes
-use Rattle.std.specs.Prelude.{◌≡◌, ℕ, ◌+◌, ◌==◌, Bool, true, false, List, [], ◌∷◌, ◌++◌, length, Option, Some, None, Ok, is_some, find}
+--     MovesTwice fixed budget old new first second      progress twice, and the turn that each lane had
+use Rattle.std.specs.Prelude.{◌≡◌, ℕ, ◌+◌, ◌≤◌, ◌⊎◌, ◌==◌, Bool, Result, is_err, true, false, List, [], ◌∷◌, ◌++◌, length, Option, Some, None, Ok, is_some, find}
 use Rattle.std.specs.List.{list_any}
 use Rattle.std.specs.Option.{option_map}
-use Rattle.fabric.specs.Answers.{Sends}
+use Rattle.fabric.specs.Answers.{HadTurn, Sends, frames_in}
 use Rattle.fabric.specs.Calls.{message, region_of}
+use Rattle.fabric.specs.Circle.{IsOf, round}
 use Rattle.fabric.specs.Cleared.{cleared}
 use Rattle.fabric.specs.Complete.{paste}
 use Rattle.fabric.specs.Held.{Seen}
 use Rattle.fabric.specs.Matching.{takes}
 use Rattle.fabric.specs.Peers.{unread}
 use Rattle.fabric.specs.Polls.{Polls}
+use Rattle.fabric.specs.Progresses.{Moves}
 use Rattle.fabric.specs.Receiving.{Posting, cancellable, receive_of, taken_by, want_of}
 use Rattle.fabric.specs.State.{Completions, Region, State, in_use, lookup}
 use Rattle.fabric.specs.Trying.{SendsLate}
-use Rattle.fabric.specs.Words.{Again, Arrival, Busy, Entry, ErrEntry, Fault, Inject, Msg, PolledEntry, Receive, Received, Success, Taken, Transmit, TryFault, TryRefused, TxFull}
+use Rattle.fabric.specs.Words.{Again, Arrival, Busy, Entry, ErrEntry, Fault, Inject, Lacks, Lane, Msg, Next, PolledEntry, Receive, Received, Success, Taken, Transmit, TryFault, TryRefused, TxFull}
 use Rattle.fabric_uses.specs.declared.receiving.Cut.{Cut}
 
 -- ---- completions
@@ -178,3 +181,13 @@ pub record AnswersTo {Home : Type 0} (fixed : Bool) (entry : Entry) (old new : S
 
 abbrev pub Echoes : {Home : Type 0} → Bool → ℕ → Seen Home → Seen Home → Type 0
 Echoes {Home = Home} fixed budget old new = (mid : Seen Home) × (entry : Entry) × ReadsNext fixed budget entry old mid × AnswersTo fixed entry mid new
+
+-- ---- turns
+
+-- two calls of progress: where they moved as many frames as there are lanes, each lane had a turn in one of them
+pub record MovesTwice {Home : Type 0} (fixed : Bool) (budget : ℕ) (old new : Seen Home) (first second : Result Next Lacks) : Type 0 where
+  pub mid : Seen Home
+  pub one : Moves fixed budget (cleared old) mid first
+  pub two : Moves fixed budget (cleared mid) new second
+  pub turns : (l : Lane) → IsOf old.lanes.peers l → round old.lanes.peers ≤ frames_in one.progressed.acts + frames_in two.progressed.acts
+      → HadTurn fixed (is_err one.moved) (cleared old) mid one.progressed.acts l ⊎ HadTurn fixed (is_err two.moved) (cleared mid) new two.progressed.acts l

@@ -28,6 +28,7 @@ pub fn send_or_keep<E: Calls + Drop>(
 // ---- more uses
 pub mod completing;
 pub mod ending;
+pub mod moving;
 pub mod receiving;
 pub mod regions;
 pub mod sending;

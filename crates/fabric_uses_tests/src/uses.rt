@@ -1,9 +1,10 @@
 //! The uses, between two endpoints over lanes in memory.
 //!
 //! What is tested is written over any endpoint, so that the endpoint of lanes is named once.
-use fabric::{Buf, Calls, EndpointOver, Entry, Hints, open};
+use fabric::{Buf, Calls, EndpointOver, Entry, Hints, Next, open};
 use fabric_uses::completing::{echo, is_idle, next_entry};
 use fabric_uses::ending::{is_quiet, send_counted};
+use fabric_uses::moving::move_twice;
 use fabric_uses::receiving::{Cut, cancelled, next_len, post_behind, receive_cut, receive_next};
 use fabric_uses::regions::{publish, withdraw};
 use fabric_uses::send_or_keep;
@@ -46,6 +47,14 @@ fn keeps<E: Calls + Drop>(alloc: Global, endpoint: &mut EndpointOver<E>, dest: u
     }
 }
 
+/// Whether nothing is left to move, in two calls of progress.
+fn rests<E: Calls + Drop>(endpoint: &mut EndpointOver<E>) -> bool {
+    match move_twice(endpoint, 1) {
+        (Ok(Next::Idle), Ok(Next::Idle)) => true,
+        _ => false,
+    }
+}
+
 /// A ping comes back as it was sent, and one for no index comes back at once.
 fn pings<E: Calls + Drop>(
     alloc: Global,
@@ -60,6 +69,7 @@ fn pings<E: Calls + Drop>(
         && is_sent(one)
         && comes(one, b"ping")
         && is_sent(zero)
+        && rests(one)
 }
 
 /// A message that was copied is free at once.

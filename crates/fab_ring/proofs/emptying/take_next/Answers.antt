@@ -8,7 +8,7 @@ use Rattle.fab_table.specs.declared.kinds.View.{View}
 use Rattle.fab_table.specs.Views.{part_at, out_at, saw_frame}
 use Rattle.fab_table.specs.Plays.{Sat, new_in_view, oldest_cell, slot_home}
 use Rattle.fab_table.specs.Seats.{sat, in_of}
-use Rattle.fab_ring.proofs.Ends.{Found, found_first}
+use Rattle.fab_ring.proofs.Ends.{Found, found_first, oldest_at}
 use Rattle.fab_ring.proofs.Lanes.{look_open, look_sided, free_in, free_sided, free_cell, done_joined, done_grew}
 use Rattle.fab_ring.proofs.emptying.take_next.Goals as goal
 
@@ -19,8 +19,9 @@ bytes_of-bytes-requires-clause-open c =
     let posted : res ≡ length (out_at (part_at m.0 e) r).posted = saw.3 e (subst (λ (z : ℕ). e < z) (sym j.count) below) q.me ∙ ap (λ (z : ℕ). length (out_at (part_at m.0 e) z).posted) p.me in
     let news : length u.taken < res = (let more = c.requires.more in let count = c.requires.count in omega arith) in let took = saw.2 news in let x : Sent = took.0 in let y : Slot = took.1 in let opens = took.2 in
     let v₁ : View = new_in_view m.0 r e (saw_frame u res x) in let most : ℕ = (part_at m.0 r).peers * (part_at m.0 r).pool in
+    let placed : c.cell_place-place.result ≡ oldest_cell m.0 r e = c.cell_place-place.ensures ∙ oldest_at f.peers f.room e r c.args.next.now.got c.args.next.now.cell (part_at m.0 r) p.peers p.room p.me c.requires.count c.requires.cell in
     let first = found_first m (sat c.look_put-put.new.seat) v₁ (oldest_cell m.0 r e) most (slot_home m.0 r) x y took.3 in
-    let there = subst (λ (z : Sat). z.1 ≡ (c.args.next.now.place, y) ∷ rest z.1) (sym first.1) (λ i. (sym c.requires.place i, y) ∷ first.0) in
+    let there = subst (λ (z : Sat). z.1 ≡ (c.cell_place-place.result, y) ∷ rest z.1) (sym first.1) (λ i. (sym placed i, y) ∷ first.0) in
     let says = c.read.ensures.says x y there opens.2 opens.1 in
     let found : Found m (sat t) v₁ (oldest_cell m.0 r e) (slot_home m.0 r) most x y = subst (λ (z : Sat). Found m z v₁ (oldest_cell m.0 r e) (slot_home m.0 r) most x y) (sym c.read.ensures.seat.1) took.3 in
     let same₁ : t.seat.table_id ≡ s.seat.table_id = c.read.ensures.seat.0.0 ∙ c.look_put-put.ensures.seat.0 in
@@ -34,8 +35,9 @@ give_back-requires-clause-seat c =
     let posted : res ≡ length (out_at (part_at m.0 e) r).posted = saw.3 e (subst (λ (z : ℕ). e < z) (sym j.count) below) q.me ∙ ap (λ (z : ℕ). length (out_at (part_at m.0 e) z).posted) p.me in
     let news : length u.taken < res = (let more = c.requires.more in let count = c.requires.count in omega arith) in let took = saw.2 news in let x : Sent = took.0 in let y : Slot = took.1 in let opens = took.2 in
     let v₁ : View = new_in_view m.0 r e (saw_frame u res x) in let most : ℕ = (part_at m.0 r).peers * (part_at m.0 r).pool in
+    let placed : c.cell_place-place.result ≡ oldest_cell m.0 r e = c.cell_place-place.ensures ∙ oldest_at f.peers f.room e r c.args.next.now.got c.args.next.now.cell (part_at m.0 r) p.peers p.room p.me c.requires.count c.requires.cell in
     let first = found_first m (sat c.look_put-put.new.seat) v₁ (oldest_cell m.0 r e) most (slot_home m.0 r) x y took.3 in
-    let there = subst (λ (z : Sat). z.1 ≡ (c.args.next.now.place, y) ∷ rest z.1) (sym first.1) (λ i. (sym c.requires.place i, y) ∷ first.0) in
+    let there = subst (λ (z : Sat). z.1 ≡ (c.cell_place-place.result, y) ∷ rest z.1) (sym first.1) (λ i. (sym placed i, y) ∷ first.0) in
     let says = c.read.ensures.says x y there opens.2 opens.1 in
     let found : Found m (sat t) v₁ (oldest_cell m.0 r e) (slot_home m.0 r) most x y = subst (λ (z : Sat). Found m z v₁ (oldest_cell m.0 r e) (slot_home m.0 r) most x y) (sym c.read.ensures.seat.1) took.3 in
     let same₁ : t.seat.table_id ≡ s.seat.table_id = c.read.ensures.seat.0.0 ∙ c.look_put-put.ensures.seat.0 in
@@ -51,8 +53,9 @@ give_back-requires-clause-opened c =
     let posted : res ≡ length (out_at (part_at m.0 e) r).posted = saw.3 e (subst (λ (z : ℕ). e < z) (sym j.count) below) q.me ∙ ap (λ (z : ℕ). length (out_at (part_at m.0 e) z).posted) p.me in
     let news : length u.taken < res = (let more = c.requires.more in let count = c.requires.count in omega arith) in let took = saw.2 news in let x : Sent = took.0 in let y : Slot = took.1 in let opens = took.2 in
     let v₁ : View = new_in_view m.0 r e (saw_frame u res x) in let most : ℕ = (part_at m.0 r).peers * (part_at m.0 r).pool in
+    let placed : c.cell_place-place.result ≡ oldest_cell m.0 r e = c.cell_place-place.ensures ∙ oldest_at f.peers f.room e r c.args.next.now.got c.args.next.now.cell (part_at m.0 r) p.peers p.room p.me c.requires.count c.requires.cell in
     let first = found_first m (sat c.look_put-put.new.seat) v₁ (oldest_cell m.0 r e) most (slot_home m.0 r) x y took.3 in
-    let there = subst (λ (z : Sat). z.1 ≡ (c.args.next.now.place, y) ∷ rest z.1) (sym first.1) (λ i. (sym c.requires.place i, y) ∷ first.0) in
+    let there = subst (λ (z : Sat). z.1 ≡ (c.cell_place-place.result, y) ∷ rest z.1) (sym first.1) (λ i. (sym placed i, y) ∷ first.0) in
     let says = c.read.ensures.says x y there opens.2 opens.1 in
     let found : Found m (sat t) v₁ (oldest_cell m.0 r e) (slot_home m.0 r) most x y = subst (λ (z : Sat). Found m z v₁ (oldest_cell m.0 r e) (slot_home m.0 r) most x y) (sym c.read.ensures.seat.1) took.3 in
     let same₁ : t.seat.table_id ≡ s.seat.table_id = c.read.ensures.seat.0.0 ∙ c.look_put-put.ensures.seat.0 in
@@ -68,8 +71,9 @@ give_back-requires-clause-count c =
     let posted : res ≡ length (out_at (part_at m.0 e) r).posted = saw.3 e (subst (λ (z : ℕ). e < z) (sym j.count) below) q.me ∙ ap (λ (z : ℕ). length (out_at (part_at m.0 e) z).posted) p.me in
     let news : length u.taken < res = (let more = c.requires.more in let count = c.requires.count in omega arith) in let took = saw.2 news in let x : Sent = took.0 in let y : Slot = took.1 in let opens = took.2 in
     let v₁ : View = new_in_view m.0 r e (saw_frame u res x) in let most : ℕ = (part_at m.0 r).peers * (part_at m.0 r).pool in
+    let placed : c.cell_place-place.result ≡ oldest_cell m.0 r e = c.cell_place-place.ensures ∙ oldest_at f.peers f.room e r c.args.next.now.got c.args.next.now.cell (part_at m.0 r) p.peers p.room p.me c.requires.count c.requires.cell in
     let first = found_first m (sat c.look_put-put.new.seat) v₁ (oldest_cell m.0 r e) most (slot_home m.0 r) x y took.3 in
-    let there = subst (λ (z : Sat). z.1 ≡ (c.args.next.now.place, y) ∷ rest z.1) (sym first.1) (λ i. (sym c.requires.place i, y) ∷ first.0) in
+    let there = subst (λ (z : Sat). z.1 ≡ (c.cell_place-place.result, y) ∷ rest z.1) (sym first.1) (λ i. (sym placed i, y) ∷ first.0) in
     let says = c.read.ensures.says x y there opens.2 opens.1 in
     let found : Found m (sat t) v₁ (oldest_cell m.0 r e) (slot_home m.0 r) most x y = subst (λ (z : Sat). Found m z v₁ (oldest_cell m.0 r e) (slot_home m.0 r) most x y) (sym c.read.ensures.seat.1) took.3 in
     let same₁ : t.seat.table_id ≡ s.seat.table_id = c.read.ensures.seat.0.0 ∙ c.look_put-put.ensures.seat.0 in
@@ -85,8 +89,9 @@ give_back-requires-clause-cell c =
     let posted : res ≡ length (out_at (part_at m.0 e) r).posted = saw.3 e (subst (λ (z : ℕ). e < z) (sym j.count) below) q.me ∙ ap (λ (z : ℕ). length (out_at (part_at m.0 e) z).posted) p.me in
     let news : length u.taken < res = (let more = c.requires.more in let count = c.requires.count in omega arith) in let took = saw.2 news in let x : Sent = took.0 in let y : Slot = took.1 in let opens = took.2 in
     let v₁ : View = new_in_view m.0 r e (saw_frame u res x) in let most : ℕ = (part_at m.0 r).peers * (part_at m.0 r).pool in
+    let placed : c.cell_place-place.result ≡ oldest_cell m.0 r e = c.cell_place-place.ensures ∙ oldest_at f.peers f.room e r c.args.next.now.got c.args.next.now.cell (part_at m.0 r) p.peers p.room p.me c.requires.count c.requires.cell in
     let first = found_first m (sat c.look_put-put.new.seat) v₁ (oldest_cell m.0 r e) most (slot_home m.0 r) x y took.3 in
-    let there = subst (λ (z : Sat). z.1 ≡ (c.args.next.now.place, y) ∷ rest z.1) (sym first.1) (λ i. (sym c.requires.place i, y) ∷ first.0) in
+    let there = subst (λ (z : Sat). z.1 ≡ (c.cell_place-place.result, y) ∷ rest z.1) (sym first.1) (λ i. (sym placed i, y) ∷ first.0) in
     let says = c.read.ensures.says x y there opens.2 opens.1 in
     let found : Found m (sat t) v₁ (oldest_cell m.0 r e) (slot_home m.0 r) most x y = subst (λ (z : Sat). Found m z v₁ (oldest_cell m.0 r e) (slot_home m.0 r) most x y) (sym c.read.ensures.seat.1) took.3 in
     let same₁ : t.seat.table_id ≡ s.seat.table_id = c.read.ensures.seat.0.0 ∙ c.look_put-put.ensures.seat.0 in
@@ -102,8 +107,9 @@ returns-clause-joined c =
     let posted : res ≡ length (out_at (part_at m.0 e) r).posted = saw.3 e (subst (λ (z : ℕ). e < z) (sym j.count) below) q.me ∙ ap (λ (z : ℕ). length (out_at (part_at m.0 e) z).posted) p.me in
     let news : length u.taken < res = (let more = c.requires.more in let count = c.requires.count in omega arith) in let took = saw.2 news in let x : Sent = took.0 in let y : Slot = took.1 in let opens = took.2 in
     let v₁ : View = new_in_view m.0 r e (saw_frame u res x) in let most : ℕ = (part_at m.0 r).peers * (part_at m.0 r).pool in
+    let placed : c.cell_place-place.result ≡ oldest_cell m.0 r e = c.cell_place-place.ensures ∙ oldest_at f.peers f.room e r c.args.next.now.got c.args.next.now.cell (part_at m.0 r) p.peers p.room p.me c.requires.count c.requires.cell in
     let first = found_first m (sat c.look_put-put.new.seat) v₁ (oldest_cell m.0 r e) most (slot_home m.0 r) x y took.3 in
-    let there = subst (λ (z : Sat). z.1 ≡ (c.args.next.now.place, y) ∷ rest z.1) (sym first.1) (λ i. (sym c.requires.place i, y) ∷ first.0) in
+    let there = subst (λ (z : Sat). z.1 ≡ (c.cell_place-place.result, y) ∷ rest z.1) (sym first.1) (λ i. (sym placed i, y) ∷ first.0) in
     let says = c.read.ensures.says x y there opens.2 opens.1 in
     let found : Found m (sat t) v₁ (oldest_cell m.0 r e) (slot_home m.0 r) most x y = subst (λ (z : Sat). Found m z v₁ (oldest_cell m.0 r e) (slot_home m.0 r) most x y) (sym c.read.ensures.seat.1) took.3 in
     let same₁ : t.seat.table_id ≡ s.seat.table_id = c.read.ensures.seat.0.0 ∙ c.look_put-put.ensures.seat.0 in
@@ -120,8 +126,9 @@ returns-clause-taken c =
     let posted : res ≡ length (out_at (part_at m.0 e) r).posted = saw.3 e (subst (λ (z : ℕ). e < z) (sym j.count) below) q.me ∙ ap (λ (z : ℕ). length (out_at (part_at m.0 e) z).posted) p.me in
     let news : length u.taken < res = (let more = c.requires.more in let count = c.requires.count in omega arith) in let took = saw.2 news in let x : Sent = took.0 in let y : Slot = took.1 in let opens = took.2 in
     let v₁ : View = new_in_view m.0 r e (saw_frame u res x) in let most : ℕ = (part_at m.0 r).peers * (part_at m.0 r).pool in
+    let placed : c.cell_place-place.result ≡ oldest_cell m.0 r e = c.cell_place-place.ensures ∙ oldest_at f.peers f.room e r c.args.next.now.got c.args.next.now.cell (part_at m.0 r) p.peers p.room p.me c.requires.count c.requires.cell in
     let first = found_first m (sat c.look_put-put.new.seat) v₁ (oldest_cell m.0 r e) most (slot_home m.0 r) x y took.3 in
-    let there = subst (λ (z : Sat). z.1 ≡ (c.args.next.now.place, y) ∷ rest z.1) (sym first.1) (λ i. (sym c.requires.place i, y) ∷ first.0) in
+    let there = subst (λ (z : Sat). z.1 ≡ (c.cell_place-place.result, y) ∷ rest z.1) (sym first.1) (λ i. (sym placed i, y) ∷ first.0) in
     let says = c.read.ensures.says x y there opens.2 opens.1 in
     let found : Found m (sat t) v₁ (oldest_cell m.0 r e) (slot_home m.0 r) most x y = subst (λ (z : Sat). Found m z v₁ (oldest_cell m.0 r e) (slot_home m.0 r) most x y) (sym c.read.ensures.seat.1) took.3 in
     let same₁ : t.seat.table_id ≡ s.seat.table_id = c.read.ensures.seat.0.0 ∙ c.look_put-put.ensures.seat.0 in

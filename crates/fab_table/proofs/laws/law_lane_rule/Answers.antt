@@ -12,7 +12,7 @@ use Rattle.fab_table.specs.declared.kinds.View.{View}
 use Rattle.fab_table.specs.Views.{part_at, out_at, in_at, lane_of, pool_word, pool_home}
 use Rattle.fab_table.specs.Rule.{Lane, Place, free, claimed, sent, PlaceOk, Ruled}
 use Rattle.fab_table.specs.Moments.{Owns, SlotStands}
-use Rattle.fab_table.proofs.Rows.{pair_below}
+use Rattle.fab_table.proofs.Rows.{lane_below}
 use Rattle.fab_table.proofs.laws.law_lane_rule.Goals as goal
 
 pub returns-clause-counts : goal.returns-clause-counts
@@ -29,7 +29,7 @@ returns-clause-outside c k t r l j near le lt = let ok = r.each_lane l near in
 slot_stands : (k : Layout) (t : State Slot View) (r : Ruled k t) (q : ℕ) (place : Place) → PlaceOk k.peers r.lane q (slice_index t.words (pool_word k.peers q)) (get_elem? t.homes (pool_home k.peers k.room q)) place → SlotStands k t r.lane q place
 slot_stands k t r q free ok = ok
 slot_stands k t r q (claimed s d) ok = ok
-slot_stands k t r q (sent s d j) ok = let lane : ℕ = lane_of k.peers s d in let got_is = (r.each_lane lane (pair_below k.peers k.peers s d ok.1 ok.2)).got_is in let stands = ok.3.1 in
+slot_stands k t r q (sent s d j) ok = let lane : ℕ = lane_of k.peers s d in let got_is = (r.each_lane lane (lane_below k.peers s d ok.1 ok.2)).got_is in let stands = ok.3.1 in
     (ok.0, ok.1, ok.2, (stands.0, stands.1, stands.2, subst (λ (z : ℕ). z ≤ j) (sym got_is) ok.3.0, ⊎_elim (λ o. inl (o.0 ∙ sym got_is, o.1)) (λ o. inr o.0) stands.3))
 
 pub returns-clause-slots : goal.returns-clause-slots
@@ -43,7 +43,7 @@ owner : (k : Layout) (t : State Slot View) (r : Ruled k t) (q : ℕ) (p : Place)
 owner k t r q free own = absurd own
 owner k t r q (claimed s d) (near_s, near_d, is) = r.pools.each_claim s d q near_s near_d is
 owner k t r q (sent s d j) (near_s, near_d, (x, slot, late, at, lent)) =
-    let got_is = (r.each_lane (lane_of k.peers s d) (pair_below k.peers k.peers s d near_s near_d)).got_is in
+    let got_is = (r.each_lane (lane_of k.peers s d) (lane_below k.peers s d near_s near_d)).got_is in
     r.pools.each_sent s d j x q near_s near_d (subst (λ (z : ℕ). z ≤ j) got_is late, at, λ is. lent (is ∙ sym got_is)) slot
 
 pub returns-clause-owned : goal.returns-clause-owned
@@ -54,7 +54,7 @@ returns-clause-one_owner c k t r q a b one other = sym (owner k t r q a one).1 �
 
 pub returns-clause-told : goal.returns-clause-told
 returns-clause-told c k t r j i v at e below = let n : ℕ = k.peers in let ok = r.each_part j v at.0 i at.1 in let me : ℕ = (part_at v i).me in
-    let out = ok.outs e below in let into = ok.ins e below in let back = r.each_lane (lane_of n e me) (pair_below n n e me below ok.below) in
+    let out = ok.outs e below in let into = ok.ins e below in let back = r.each_lane (lane_of n e me) (lane_below n e me below ok.below) in
     (out.0, subst (λ (z : ℕ). (in_at (part_at v i) e).taken ≡ take z (r.lane (lane_of n e me)).posted) (sym back.got_is) into.0)
 
 pub returns-clause-numbered : goal.returns-clause-numbered
@@ -66,7 +66,7 @@ returns-clause-numbered c k t r j i v at = let ok = r.each_part j v at.0 i at.1 
 
 pub returns-clause-known : goal.returns-clause-known
 returns-clause-known c k t r j i v at e below = let n : ℕ = k.peers in let ok = r.each_part j v at.0 i at.1 in let me : ℕ = (part_at v i).me in
-    let out = ok.outs e below in let into = ok.ins e below in let there = r.each_lane (lane_of n me e) (pair_below n n me e ok.below below) in let back = r.each_lane (lane_of n e me) (pair_below n n e me below ok.below) in
+    let out = ok.outs e below in let into = ok.ins e below in let there = r.each_lane (lane_of n me e) (lane_below n me e ok.below below) in let back = r.each_lane (lane_of n e me) (lane_below n e me below ok.below) in
     let from : Lane = r.lane (lane_of n e me) in (
       ap length out.0 ∙ sym there.put_is,
       subst (λ (z : ℕ). (out_at (part_at v i) e).got_seen ≤ z) (sym there.got_is) out.1,

@@ -8,6 +8,7 @@ abbrev pub invariant-loop : goal.invariant-loop
 invariant-loop g l = record {
   letting : Letting (seen g.P.Port l.fn.self) (seen g.P.Port l.self) l.fn.dest;
   ins : g.P.Port.ins l.self.port ≡ g.P.Port.ins l.fn.self.port;
+  next : l.self.next ≡ l.fn.self.next;
   dest : l.dest ≡ l.fn.dest;
 }
 

@@ -10,12 +10,12 @@ returns-then-not-is_full-clause-ok g c o granted = rw (← c.self.view_is) (admi
 
 pub returns-in_default-clause-err : goal.returns-in_default-clause-err
 returns-in_default-clause-err g c o granted =
-    rw (← c.self.view_is) (unable_as g.P.Port.FIXED _ _ o c.push.result (c.if-is_short.ensures.room refl) (rw (← c.self.view_is) at granted) (search rules) (search rules) c.push.ensures.memory c.push.ensures.pushes c.push.ensures.places c.push.ensures.ins)
+    rw (← c.self.view_is) (unable_as g.P.Port.FIXED _ _ o c.push.result (c.if-is_short.ensures.room refl) (rw (← c.self.view_is) at granted) (search rules) (search rules) c.push.ensures.memory c.push.ensures.pushes c.push.ensures.places c.push.ensures.ins c.push.ensures.next)
 
 pub returns-then-is_full-clause-err : goal.returns-then-is_full-clause-err
 returns-then-is_full-clause-err g c o granted =
-    rw (← c.self.view_is) (still_full g.P.Port.FIXED _ _ o _ (search rules) (c.if-is_short.ensures.room refl) (rw (← c.self.view_is) at granted) (search rules) (search rules) c.push.ensures.places c.push.ensures.ins (search rules))
+    rw (← c.self.view_is) (still_full g.P.Port.FIXED _ _ o _ (search rules) (c.if-is_short.ensures.room refl) (rw (← c.self.view_is) at granted) (search rules) (search rules) c.push.ensures.places c.push.ensures.ins c.push.ensures.next (search rules))
 
 pub returns-clause-ok : goal.returns-clause-ok
 returns-clause-ok g c o granted =
-    rw (← c.self.view_is) (admitted _ _ o (c.if-is_short.ensures.room refl) c.push.ensures.places (rw (← c.self.view_is) at granted) (search rules) (search rules) c.push.ensures.ins (search rules))
+    rw (← c.self.view_is) (admitted _ _ o (c.if-is_short.ensures.room refl) c.push.ensures.places (rw (← c.self.view_is) at granted) (search rules) (search rules) c.push.ensures.ins c.push.ensures.next (search rules))

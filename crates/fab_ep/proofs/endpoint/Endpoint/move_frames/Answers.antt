@@ -26,7 +26,7 @@ returns-in_err-turn g c =
     let was = c.loop-turn.invariant in
     let going = was.going in
     let turns = turns_from g.P.Port.FIXED (c.args.budget - c.loop-turn.taken - c.loop-turn.posted) (seen g.P.Port c.loop-turn.self) (seen g.P.Port c.turn.new.self) c.args.self.now.next c.loop-turn.self.next c.turn.new.self.next (Err c.in_err-turn.field-0.0) was.next c.in_err-turn.ensures.turns in
-    progress_err_of g.P.Port.FIXED going.0 (seen g.P.Port c.args.self.now) (seen g.P.Port c.loop-turn.self) (seen g.P.Port c.turn.new.self) c.args.budget c.loop-turn.taken c.loop-turn.posted _ c.args.self.now.next c.turn.new.self.next c.from_residual.result c.in_err-turn.field-0.0
+    progress_err_of g.P.Port.FIXED going.0 (seen g.P.Port c.args.self.now) (seen g.P.Port c.loop-turn.self) (seen g.P.Port c.turn.new.self) c.args.budget c.loop-turn.taken c.loop-turn.posted _ c.from_residual.result c.in_err-turn.field-0.0
     (search rules) going.1 (let m = was.most in omega (arith, m)) turns (c.in_err-turn.ensures.pushed ∙ was.pushed)
 
 pub overflow_add-taken-in-loop-turn : goal.overflow_add-taken-in-loop-turn
@@ -42,11 +42,10 @@ returns-then-taken-posted g c =
     let going = was.going in
     let turn : TurnedOn g.P.Port.FIXED (c.args.budget - c.loop-turn.taken - c.loop-turn.posted) (seen g.P.Port c.loop-turn.self) (seen g.P.Port c.turn.new.self) c.args.self.now.next c.turn.new.self.next c.in_ok-turn.turn =
     turns_from g.P.Port.FIXED (c.args.budget - c.loop-turn.taken - c.loop-turn.posted) (seen g.P.Port c.loop-turn.self) (seen g.P.Port c.turn.new.self) c.args.self.now.next c.loop-turn.self.next c.turn.new.self.next (Ok c.in_ok-turn.turn) was.next c.in_ok-turn.ensures.turns in
-    let ended = ended_in g.P.Port.FIXED going.0 (seen g.P.Port c.args.self.now) (seen g.P.Port c.loop-turn.self) (seen g.P.Port c.turn.new.self) c.loop-turn.taken c.loop-turn.posted _ c.args.self.now.next c.turn.new.self.next c.in_ok-turn.turn going.1 turn in
-    let drawn = ended_drawn g.P.Port.FIXED (seen g.P.Port c.args.self.now) (seen g.P.Port c.turn.new.self) (seen g.P.Port c.spend.new.self) _ _ c.args.self.now.next c.turn.new.self.next ended c.spend.ensures.draws in
-    rw c.spend.ensures.next
-    (progress_spent g.P.Port.FIXED (seen g.P.Port c.args.self.now) (seen g.P.Port c.turn.new.self) (seen g.P.Port c.spend.new.self) c.args.budget _ _ c.args.self.now.next c.turn.new.self.next c.spend.result c.spend.ensures.moved drawn
-    (omega (arith, c.if-taken-posted.true)) c.spend.ensures.draws (c.in_ok-turn.ensures.pushed ∙ was.pushed))
+    let ended = ended_in g.P.Port.FIXED going.0 (seen g.P.Port c.args.self.now) (seen g.P.Port c.loop-turn.self) (seen g.P.Port c.turn.new.self) c.loop-turn.taken c.loop-turn.posted _ c.in_ok-turn.turn going.1 turn in
+    let drawn = ended_drawn g.P.Port.FIXED (seen g.P.Port c.args.self.now) (seen g.P.Port c.turn.new.self) (seen g.P.Port c.spend.new.self) _ _ ended c.spend.ensures.draws in
+    progress_spent g.P.Port.FIXED (seen g.P.Port c.args.self.now) (seen g.P.Port c.turn.new.self) (seen g.P.Port c.spend.new.self) c.args.budget _ _ c.spend.result c.spend.ensures.moved drawn
+    (omega (arith, c.if-taken-posted.true)) c.spend.ensures.draws (c.in_ok-turn.ensures.pushed ∙ was.pushed)
 
 pub returns-then-turn : goal.returns-then-turn
 returns-then-turn g c =
@@ -56,8 +55,8 @@ returns-then-turn g c =
     let turn : TurnedOn g.P.Port.FIXED (c.args.budget - c.loop-turn.taken - c.loop-turn.posted) (seen g.P.Port c.loop-turn.self) (seen g.P.Port c.turn.new.self) c.args.self.now.next c.turn.new.self.next c.in_ok-turn.turn =
     turns_from g.P.Port.FIXED (c.args.budget - c.loop-turn.taken - c.loop-turn.posted) (seen g.P.Port c.loop-turn.self) (seen g.P.Port c.turn.new.self) c.args.self.now.next c.loop-turn.self.next c.turn.new.self.next (Ok c.in_ok-turn.turn) was.next c.in_ok-turn.ensures.turns in
     let n = turn.most in
-    let ended = ended_in g.P.Port.FIXED going.0 (seen g.P.Port c.args.self.now) (seen g.P.Port c.loop-turn.self) (seen g.P.Port c.turn.new.self) c.loop-turn.taken c.loop-turn.posted _ c.args.self.now.next c.turn.new.self.next c.in_ok-turn.turn going.1 turn in
-    progress_ok g.P.Port.FIXED (seen g.P.Port c.args.self.now) (seen g.P.Port c.turn.new.self) c.args.budget _ _ LogFull c.args.self.now.next c.turn.new.self.next ended (omega (arith, m, n)) (c.in_ok-turn.ensures.pushed ∙ was.pushed)
+    let ended = ended_in g.P.Port.FIXED going.0 (seen g.P.Port c.args.self.now) (seen g.P.Port c.loop-turn.self) (seen g.P.Port c.turn.new.self) c.loop-turn.taken c.loop-turn.posted _ c.in_ok-turn.turn going.1 turn in
+    progress_ok g.P.Port.FIXED (seen g.P.Port c.args.self.now) (seen g.P.Port c.turn.new.self) c.args.budget _ _ LogFull ended (omega (arith, m, n)) (c.in_ok-turn.ensures.pushed ∙ was.pushed)
     ((λ is. absurd (cc)), (λ is. absurd (omega (arith, is, c.if-taken-posted.false)))) (turn.short c.if-turn.true)
 
 pub returns-then-turn-2 : goal.returns-then-turn-2
@@ -68,8 +67,8 @@ returns-then-turn-2 g c =
     let turn : TurnedOn g.P.Port.FIXED (c.args.budget - c.loop-turn.taken - c.loop-turn.posted) (seen g.P.Port c.loop-turn.self) (seen g.P.Port c.turn.new.self) c.args.self.now.next c.turn.new.self.next c.in_ok-turn.turn =
     turns_from g.P.Port.FIXED (c.args.budget - c.loop-turn.taken - c.loop-turn.posted) (seen g.P.Port c.loop-turn.self) (seen g.P.Port c.turn.new.self) c.args.self.now.next c.loop-turn.self.next c.turn.new.self.next (Ok c.in_ok-turn.turn) was.next c.in_ok-turn.ensures.turns in
     let n = turn.most in
-    let ended = ended_in g.P.Port.FIXED going.0 (seen g.P.Port c.args.self.now) (seen g.P.Port c.loop-turn.self) (seen g.P.Port c.turn.new.self) c.loop-turn.taken c.loop-turn.posted _ c.args.self.now.next c.turn.new.self.next c.in_ok-turn.turn going.1 turn in
-    progress_ok g.P.Port.FIXED (seen g.P.Port c.args.self.now) (seen g.P.Port c.turn.new.self) c.args.budget _ _ CqFull c.args.self.now.next c.turn.new.self.next ended (omega (arith, m, n)) (c.in_ok-turn.ensures.pushed ∙ was.pushed)
+    let ended = ended_in g.P.Port.FIXED going.0 (seen g.P.Port c.args.self.now) (seen g.P.Port c.loop-turn.self) (seen g.P.Port c.turn.new.self) c.loop-turn.taken c.loop-turn.posted _ c.in_ok-turn.turn going.1 turn in
+    progress_ok g.P.Port.FIXED (seen g.P.Port c.args.self.now) (seen g.P.Port c.turn.new.self) c.args.budget _ _ CqFull ended (omega (arith, m, n)) (c.in_ok-turn.ensures.pushed ∙ was.pushed)
     ((λ is. absurd (cc)), (λ is. absurd (omega (arith, is, c.if-taken-posted.false))))
     (stops_at g.P.Port.FIXED going.0 (seen g.P.Port c.args.self.now) (seen g.P.Port c.loop-turn.self) (seen g.P.Port c.turn.new.self) _ _ _ _ _ c.in_ok-turn.turn CqFull going.1 turn c.if-turn.false (search rules) (inl (search rules, refl)))
 
@@ -81,8 +80,8 @@ returns-else-turn-2 g c =
     let turn : TurnedOn g.P.Port.FIXED (c.args.budget - c.loop-turn.taken - c.loop-turn.posted) (seen g.P.Port c.loop-turn.self) (seen g.P.Port c.turn.new.self) c.args.self.now.next c.turn.new.self.next c.in_ok-turn.turn =
     turns_from g.P.Port.FIXED (c.args.budget - c.loop-turn.taken - c.loop-turn.posted) (seen g.P.Port c.loop-turn.self) (seen g.P.Port c.turn.new.self) c.args.self.now.next c.loop-turn.self.next c.turn.new.self.next (Ok c.in_ok-turn.turn) was.next c.in_ok-turn.ensures.turns in
     let n = turn.most in
-    let ended = ended_in g.P.Port.FIXED going.0 (seen g.P.Port c.args.self.now) (seen g.P.Port c.loop-turn.self) (seen g.P.Port c.turn.new.self) c.loop-turn.taken c.loop-turn.posted _ c.args.self.now.next c.turn.new.self.next c.in_ok-turn.turn going.1 turn in
-    progress_ok g.P.Port.FIXED (seen g.P.Port c.args.self.now) (seen g.P.Port c.turn.new.self) c.args.budget _ _ Idle c.args.self.now.next c.turn.new.self.next ended (omega (arith, m, n)) (c.in_ok-turn.ensures.pushed ∙ was.pushed)
+    let ended = ended_in g.P.Port.FIXED going.0 (seen g.P.Port c.args.self.now) (seen g.P.Port c.loop-turn.self) (seen g.P.Port c.turn.new.self) c.loop-turn.taken c.loop-turn.posted _ c.in_ok-turn.turn going.1 turn in
+    progress_ok g.P.Port.FIXED (seen g.P.Port c.args.self.now) (seen g.P.Port c.turn.new.self) c.args.budget _ _ Idle ended (omega (arith, m, n)) (c.in_ok-turn.ensures.pushed ∙ was.pushed)
     ((λ is. absurd (cc)), (λ is. absurd (omega (arith, is, c.if-taken-posted.false))))
     (stops_at g.P.Port.FIXED going.0 (seen g.P.Port c.args.self.now) (seen g.P.Port c.loop-turn.self) (seen g.P.Port c.turn.new.self) _ _ _ _ _ c.in_ok-turn.turn Idle going.1 turn c.if-turn.false (search rules) (inr (search rules, refl)))
 
@@ -114,6 +113,5 @@ returns g c =
     let m = was.most in
     let s = was.turns in
     let all : c.loop-turn.taken + c.loop-turn.posted ≡ c.args.budget = omega (arith, m, s, c.loop-turn-test.false, c.loop-turn.auto._turn-end) in
-    let ended = ended_at g.P.Port.FIXED before.0 (seen g.P.Port c.args.self.now) (seen g.P.Port c.loop-turn.self) (seen g.P.Port c.spend-2.new.self) _ _ c.args.self.now.next before.1 c.spend-2.ensures.draws in
-    rw (c.spend-2.ensures.next, was.next)
-    (progress_spent g.P.Port.FIXED (seen g.P.Port c.args.self.now) (seen g.P.Port c.loop-turn.self) (seen g.P.Port c.spend-2.new.self) c.args.budget c.loop-turn.taken c.loop-turn.posted c.args.self.now.next c.args.self.now.next c.spend-2.result c.spend-2.ensures.moved ended all c.spend-2.ensures.draws was.pushed)
+    let ended = ended_at g.P.Port.FIXED before.0 (seen g.P.Port c.args.self.now) (seen g.P.Port c.loop-turn.self) (seen g.P.Port c.spend-2.new.self) _ _ was.next before.1 c.spend-2.ensures.draws in
+    progress_spent g.P.Port.FIXED (seen g.P.Port c.args.self.now) (seen g.P.Port c.loop-turn.self) (seen g.P.Port c.spend-2.new.self) c.args.budget c.loop-turn.taken c.loop-turn.posted c.spend-2.result c.spend-2.ensures.moved ended all c.spend-2.ensures.draws was.pushed

@@ -7,6 +7,7 @@ pub loop-dest-init : goal.loop-dest-init
 loop-dest-init g c = record {
   pushing = pushing_none (seen g.P.Port c.args.self.now);
   ins = refl;
+  next = refl;
   places = c.requires.places;
   peers = search rules;
 }
@@ -21,6 +22,7 @@ loop-dest-preserved g c =
     record {
       pushing = on;
       ins = c.in_ok-push_to.ensures.ins ∙ was.ins;
+      next = c.in_ok-push_to.ensures.next ∙ was.next;
       places = c.in_ok-push_to.ensures.places;
       peers = was.peers ∙ pushing_peers a e _ was.pushing ∙ sym (pushing_peers a e1 _ on);
     }

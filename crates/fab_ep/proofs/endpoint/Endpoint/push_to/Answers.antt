@@ -10,6 +10,7 @@ loop-init g c = record {
   places = c.requires.places;
   others = λ k other. refl;
   ins = refl;
+  next = refl;
   stays = stays_none (seen g.P.Port c.args.self.now) c.args.dest;
   dest = refl;
 }
@@ -22,6 +23,7 @@ loop-preserved g c =
       places = c.in_ok-push_on.ensures.places;
       others = λ k other. c.in_ok-push_on.ensures.others k other ∙ was.others k other;
       ins = c.in_ok-push_on.ensures.ins ∙ was.ins;
+      next = c.in_ok-push_on.ensures.next ∙ was.next;
       stays = stays_then (seen g.P.Port c.args.self.now) (seen g.P.Port c.loop.self) (seen g.P.Port c.push_on.new.self) c.args.dest was.stays c.in_ok-push_on.ensures.stays;
       dest = refl;
     }

@@ -11,6 +11,7 @@ invariant-loop g l = record {
   places : HasPlaces (seen g.P.Port l.self);
   others : Others l.fn.dest (g.P.Port.outs l.fn.self.port) (g.P.Port.outs l.self.port);
   ins : g.P.Port.ins l.self.port ≡ g.P.Port.ins l.fn.self.port;
+  next : l.self.next ≡ l.fn.self.next;
   stays : HeldStays (seen g.P.Port l.fn.self) (seen g.P.Port l.self) l.fn.dest;
   dest : l.dest ≡ l.fn.dest;
 }

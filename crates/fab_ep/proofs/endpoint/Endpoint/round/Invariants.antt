@@ -1,6 +1,6 @@
 use Rattle.std.proofs.Common.{◌≡◌, ◌<◌, ◌≤◌, ◌+◌, false}
 use Rattle.fab_ep.specs.Value.{seen}
-use Rattle.fab_ep.specs.Circle.{round}
+use Rattle.fab_face.specs.Circle.{round}
 use Rattle.fab_ep.specs.Tries.{Turning}
 use Rattle.fab_ep.proofs.endpoint.Endpoint.round.Given as goal
 

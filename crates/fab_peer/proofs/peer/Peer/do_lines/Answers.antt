@@ -12,7 +12,7 @@ returns-then-not-outcome-clause-on g c =
     let inv = c.loop-round.invariant in
     let o = c.in_ok-outcome.outcome in
     lines_end (told seen c.args.self.now) (told seen c.loop-round.self) (told seen c.do_line.new.self) inv.lived.0 c.loop-round.moved o.done o.moved (c.loop-round.moved || o.moved)
-    (λ before. inv.counted) inv.lived.1 inv.lived.2 inv.lines (omega (arith, inv.lived.3)) c.in_ok-outcome.ensures.on (not_true o.done c.if-not-outcome.true) refl
+    (λ before. inv.counted) inv.lived.1 inv.lived.2 inv.lines (omega (arith, inv.lived.3)) inv.size c.in_ok-outcome.ensures.on (not_true o.done c.if-not-outcome.true) refl
 
 pub loop-round-preserved : goal.loop-round-preserved
 loop-round-preserved g c =
@@ -26,6 +26,7 @@ loop-round-preserved g c =
       lived = lines_go_on (told seen c.args.self.now) (told seen c.loop-round.self) (told seen c.do_line.new.self) (told seen c.read_all.new.self) inv.lived.0 c.loop-round.moved o.done o.moved (c.loop-round.moved || o.moved)
           c.in_ok-read_all.field-0 c.loop-round.round inv.lived.1 inv.lived.2 inv.lived.3 went was refl read;
       log = read.log ∙ went.log;
+      size = read.size ∙ went.size ∙ inv.size;
       counted = read.counted (went.counted inv.counted);
       lines = read.lines ∙ went.lines ∙ inv.lines;
       moved = λ below. ap (λ x. c.loop-round.moved || x) (went.is_done was) ∙ or_true c.loop-round.moved;
@@ -38,6 +39,7 @@ pub loop-round-init : goal.loop-round-init
 loop-round-init g c = record {
   lived = ([], lived_same (told g.E.Sees.seen c.args.self.now), refl, refl);
   log = c.requires.log;
+  size = refl;
   counted = c.requires.counted;
   lines = refl;
   moved = λ below. absurd (omega (arith, below));
@@ -47,7 +49,7 @@ pub returns-clause-on : goal.returns-clause-on
 returns-clause-on g c =
     let seen = g.E.Sees.seen in
     let inv = c.loop-round.invariant in
-    lines_all (told seen c.args.self.now) (told seen c.loop-round.self) inv.lived.0 c.loop-round.moved inv.lived.1 inv.lived.2 (inv.moved (omega arith)) inv.log inv.lines (λ before. inv.counted) (omega (arith, inv.lived.3))
+    lines_all (told seen c.args.self.now) (told seen c.loop-round.self) inv.lived.0 c.loop-round.moved inv.lived.1 inv.lived.2 (inv.moved (omega arith)) inv.log inv.lines (λ before. inv.counted) inv.size (omega (arith, inv.lived.3))
 
 pub returns-in_err-outcome-clause-left : goal.returns-in_err-outcome-clause-left
 returns-in_err-outcome-clause-left g c =

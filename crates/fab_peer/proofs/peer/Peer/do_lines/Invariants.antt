@@ -10,6 +10,7 @@ invariant-loop-round g l =
     record {
       lived : (acts : List Act) × Lived (told seen l.fn.self) (told seen l.self) acts × (l.moved ≡ is_some_act acts) × (count_by is_line acts ≡ l.round);
       log : (seen l.self.endpoint).log ≡ [];
+      size : (seen l.self.endpoint).log_size ≡ (seen l.fn.self.endpoint).log_size;
       counted : IsCounted (living_of (told seen l.self));
       lines : l.self.lines ≡ l.fn.self.lines;
       moved : 0 < l.round → l.moved ≡ true;

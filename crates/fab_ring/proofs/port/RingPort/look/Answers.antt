@@ -12,8 +12,7 @@ use Rattle.fab_table.specs.Views.{frames_of, part_at, in_at, with_in, saw_frame,
 use Rattle.fab_table.specs.Plays.{Sat, slot_home, oldest_of}
 use Rattle.fab_ring.specs.Hands.{shapes, Fits, Sees, Tells, Told, Ends, Comes}
 use Rattle.fab_ring.proofs.Hold.{flag_at, shapes_two, fits_empty, fits_open, fits_open_slot, got_len}
-use Rattle.fab_ring.proofs.Rounds.{got_cell, cell_small}
-use Rattle.std.proofs.Math.Nat.{mod-lt}
+use Rattle.fab_ring.proofs.Rounds.{got_cell}
 use Rattle.std.proofs.lemmas.List.{get_or_default as get_any}
 use Rattle.fab_base.proofs.Options.{not_some as nothing}
 use Rattle.fab_ring.proofs.Ends.{in_all}
@@ -24,17 +23,10 @@ use Rattle.fab_ring.proofs.Seeing.{sees_in}
 use Rattle.fab_ring.proofs.Counting.{ups_more}
 use Rattle.fab_ring.proofs.port.RingPort.look.Goals as goal
 
-pub overflow_add-next : goal.overflow_add-next
-overflow_add-next c = let q = c.seek.new.self in let f = arc_value q.fabric in let s : ℕ = c.args.src in let m : Sat = q.seat.seat.me in let p : Part = part_at m.0 0 in let near : s < f.peers = subst (λ t. s < t.peers) (sym c.seek.ensures.port.0) c.requires in
-    let got = got_len _ _ _ _ _ _ _ _ _ _ _ _ q.fits s c.index-got.result.now near c.index-got.ensures in let cell = got_cell _ _ _ _ _ _ q.rounds s c.index-got.result.now c.index-cell.result.now near (got ∙ sym (q.fits.each_got s near).0) c.index-cell.ensures in
-    let peers : c.peers.result ≡ f.peers = c.peers.ensures ∙ ap (λ t. t.peers) c.deref-2.ensures in let rooms : c.room-room.result ≡ f.room = c.room-room.ensures ∙ ap (λ t. t.room) c.deref.ensures in
-    record { fits = subst (λ (z : ℕ × ℕ × ℕ). (s * z.0 + q.me) * z.1 + z.2 < 18446744073709551616) (λ i. (sym peers i, sym rooms i, sym cell i)) (cell_small f.peers f.room s q.me (c.index-got.result.now % f.room) f.sized.6 f.sized.4 near q.fits.below (mod-lt c.index-got.result.now f.sized.3)) }
-
-pub open_next-found-requires-clause-place : goal.open_next-found-requires-clause-place
-open_next-found-requires-clause-place c = let q = c.seek.new.self in let f = arc_value q.fabric in let s : ℕ = c.args.src in let m : Sat = q.seat.seat.me in let p : Part = part_at m.0 0 in let near : s < f.peers = subst (λ t. s < t.peers) (sym c.seek.ensures.port.0) c.requires in
-    let got = got_len _ _ _ _ _ _ _ _ _ _ _ _ q.fits s c.index-got.result.now near c.index-got.ensures in let cell = got_cell _ _ _ _ _ _ q.rounds s c.index-got.result.now c.index-cell.result.now near (got ∙ sym (q.fits.each_got s near).0) c.index-cell.ensures in
-    let peers : c.peers.result ≡ p.peers = c.peers.ensures ∙ ap (λ t. t.peers) c.deref-2.ensures ∙ sym q.fits.peers_is in let rooms : c.room-room.result ≡ p.room = c.room-room.ensures ∙ ap (λ t. t.room) c.deref.ensures ∙ sym q.fits.room_is in
-    λ i. (s * peers i + sym q.fits.me_is i) * rooms i + (cell ∙ (λ j. got j % sym q.fits.room_is j)) i
+pub open_next-found-requires-clause-cell : goal.open_next-found-requires-clause-cell
+open_next-found-requires-clause-cell c = let q = c.seek.new.self in let f = arc_value q.fabric in let s : ℕ = c.args.src in let near : s < f.peers = subst (λ t. s < t.peers) (sym c.seek.ensures.port.0) c.requires in
+    let got = got_len _ _ _ _ _ _ _ _ _ _ _ _ q.fits s c.index-got.result.now near c.index-got.ensures in
+    got_cell _ _ _ _ _ _ q.rounds s c.index-got.result.now c.index-cell.result.now near (got ∙ sym (q.fits.each_got s near).0) c.index-cell.ensures ∙ ap (λ t. c.index-got.result.now % t.room) (sym c.deref.ensures)
 
 pub invariant_of-self-in-Empty : goal.invariant_of-self-in-Empty
 invariant_of-self-in-Empty c = let q = c.seek.new.self in let P = c.args.self.now in let f = arc_value q.fabric in let s : ℕ = c.args.src in let m : Sat = q.seat.seat.me in let p : Part = part_at m.0 0 in let u : In = in_at p s in
@@ -80,7 +72,7 @@ invariant_of-self-in-Pooled c = let q = c.seek.new.self in let P = c.args.self.n
     let more = ups_more q.open_count q.opened.items s q.counted (subst (λ (z : ℕ). s < z) (sym q.fits.all_open) near) down in
     let spare : s < length q.buffers.items = subst (λ (z : ℕ). s < z) (sym q.told.all_buffers) near in let sized : length c.index_mut-2.result.now ≡ 4096 = ap length (c.index_mut-2.ensures.value ∙ get_any q.buffers.items s c.index_mut-2.result.now [] spare) ∙ q.told.sizes s near in
     let new_c = c.open_next-found.new.command in let new_b = c.open_next-found.new.buffer in let got = c.open_next-found.ensures.pooled c.in-Pooled.is in let x : Sent = got.1 in let k : ℕ = got.3 in let u' : In = saw_frame u got.0 x in let y : ℕ × Slot = (oldest_of p s, Cell got.2) in let z : ℕ × Slot = (slot_home m.0 0 k, Pool c.index_mut-2.result.now) in
-    let all = in_all m _ s u' p.moves ((m.1 ++ y ∷ []) ++ z ∷ []) q.at.1 got.11 in let low : k < f.peers * f.pool = subst (λ t. k < t.peers * t.pool) c.deref-3.ensures got.7 in
+    let all = in_all m _ s u' p.moves ((m.1 ++ y ∷ []) ++ z ∷ []) q.at.1 got.11 in let low : k < f.peers * f.pool = subst (λ t. k < t.peers * t.pool) c.deref.ensures got.7 in
     let shaped : shapes ((m.1 ++ y ∷ []) ++ z ∷ []) ≡ (shapes m.1 ++ (oldest_of p s, 0) ∷ []) ++ (slot_home m.0 0 k, 4097) ∷ [] = shapes_two m.1 y z ∙ (λ i. (shapes m.1 ++ (oldest_of p s, 0) ∷ []) ++ (slot_home m.0 0 k, sized i + 1) ∷ []) in
     record {
       at = (c.open_next-found.ensures.seat.0 ∙ q.at.0, all.0);

@@ -2,14 +2,16 @@ use Rattle.std.proofs.Common.{◌≡◌, ℕ, ◌+◌, ◌*◌, ◌%◌, ◌<◌
 use Rattle.std.specs.Prelude.{Some, None}
 use Rattle.std.specs.Arc.{arc_value}
 use Rattle.atomic_table.specs.Table.{rest}
+use Rattle.fab_link.specs.Frames.{last_head, Continues}
 use Rattle.fab_link.specs.declared.moves.Move.{Move}
 use Rattle.fab_link.specs.declared.moves.Move.TheVariants.{Post}
 use Rattle.fab_table.specs.declared.kinds.Sent.{Sent}
 use Rattle.fab_table.specs.declared.kinds.Slot.{Slot}
+use Rattle.fab_table.specs.declared.kinds.Slot.TheVariants.{Cell}
 use Rattle.fab_table.specs.declared.kinds.Out.{Out}
 use Rattle.fab_table.specs.declared.kinds.Part.{Part}
 use Rattle.fab_table.specs.declared.kinds.View.{View}
-use Rattle.fab_table.specs.Views.{new_out, part_at, out_at, with_part, with_out, posted_one, saw_room, saw_full}
+use Rattle.fab_table.specs.Views.{frames_of, new_out, part_at, out_at, with_part, with_out, posted_one, saw_room, saw_full, lane_of}
 use Rattle.fab_table.specs.Rule.{greatest}
 use Rattle.fab_table.specs.Plays.{Sat, most, new_out_view, next_cell}
 use Rattle.fab_ring.specs.Tries.{IsTried, IsSent, tried_out, sent_as}
@@ -18,7 +20,7 @@ use Rattle.fab_ring.proofs.Hold.{fits_saw, fits_post, put_len}
 use Rattle.fab_ring.proofs.Ends.{tried_length, sent_length, out_all, sent_over, view_over, here_out, next_over}
 use Rattle.fab_ring.proofs.Told.{told_out, comes_out}
 use Rattle.fab_ring.proofs.Lasts.{ends_out, ends_post}
-use Rattle.fab_ring.proofs.Rounds.{put_cell, rounds_put, cell_small}
+use Rattle.fab_ring.proofs.Rounds.{put_cell, rounds_put}
 use Rattle.fab_ring.proofs.Seeing.{sees_out, seen_at}
 use Rattle.std.proofs.Math.Nat.{mod-lt}
 use Rattle.fab_ring.specs.declared.port.RingPort.{RingPort}
@@ -71,18 +73,64 @@ send_next-requires-clause-place c = let q = c.args.self.now in let f = arc_value
     let saw = c.hold_next-got.ensures.view in let r : ℕ = c.hold_next-got.result in let put = put_len _ _ _ _ _ _ _ _ _ _ _ _ q.fits d c.index-put.result.now low c.index-put.ensures in let wide : c.room-room.result ≡ p.room = c.room-room.ensures ∙ ap (λ t. t.room) c.deref-2.ensures ∙ sym q.fits.room_is in
     let mine = q.fits.each_put d low in let space : length o.posted < r + p.room = (let le = saw.0 in let t = c.if-put-got.false in omega arith) in
     let few : greatest 0 p.moves < most = (let t = c.if-self-ge-MOST.false in let e = q.fits.clock_is in omega arith) in let took = saw.3 space few in let o₁ : Out = saw_room o r in let v₁ : View = new_out_view m.0 0 d o₁ in
-    let all_peers : c.peers.result ≡ p.peers = c.peers.ensures ∙ ap (λ t. t.peers) c.deref-3.ensures ∙ sym q.fits.peers_is in
+    let placed : c.cell_place-place.result ≡ lane_of f.peers q.me d * f.room + c.index-cell.result.now = c.cell_place-place.ensures ∙ ap (λ t. lane_of t.peers q.me d * t.room + c.index-cell.result.now) c.deref-3.ensures in
     let rooms : c.room-room.result ≡ f.room = c.room-room.ensures ∙ ap (λ t. t.room) c.deref-2.ensures in let cell : c.index-cell.result.now ≡ c.index-put.result.now % f.room = put_cell _ _ _ _ _ _ q.rounds d c.index-put.result.now c.index-cell.result.now low (put ∙ sym mine.0) c.index-cell.ensures in
-    (λ i. (sym q.fits.me_is i * all_peers i + d) * wide i + (cell ∙ (λ j. put j % sym q.fits.room_is j)) i) ∙ sym (next_over m.0 d q.at.1 inside o₁ refl) ∙ ap (λ (z : Sat). next_cell z.0 0 d) (sym took.1)
+    placed ∙ (λ i. lane_of (sym q.fits.peers_is i) (sym q.fits.me_is i) d * sym q.fits.room_is i + (cell ∙ (λ j. put j % sym q.fits.room_is j)) i) ∙ sym (next_over m.0 d q.at.1 inside o₁ refl) ∙ ap (λ (z : Sat). next_cell z.0 0 d) (sym took.1)
 
-pub overflow_add-next-2 : goal.overflow_add-next-2
-overflow_add-next-2 c = let q = c.args.self.now in let f = arc_value q.fabric in let d : ℕ = c.args.dest in let m : Sat = q.seat.seat.me in let p : Part = part_at m.0 0 in let o : Out = out_at p d in let low : d < f.peers = c.requires.below in let inside : d < length p.outs = subst (λ (z : ℕ). d < z) (sym q.fits.all_outs) low in
+pub cell_place-place-requires-clause-lane : goal.cell_place-place-requires-clause-lane
+cell_place-place-requires-clause-lane c = let q = c.args.self.now in subst (λ t. (q.me < t.peers) × (c.args.dest < t.peers)) (sym c.deref-3.ensures) (q.fits.below, c.requires.below)
+
+pub cell_place-place-requires-clause-cell : goal.cell_place-place-requires-clause-cell
+cell_place-place-requires-clause-cell c = let q = c.args.self.now in let f = arc_value q.fabric in let d : ℕ = c.args.dest in let low : d < f.peers = c.requires.below in
+    let put = put_len _ _ _ _ _ _ _ _ _ _ _ _ q.fits d c.index-put.result.now low c.index-put.ensures in
+    let cell : c.index-cell.result.now ≡ c.index-put.result.now % f.room = put_cell _ _ _ _ _ _ q.rounds d c.index-put.result.now c.index-cell.result.now low (put ∙ sym (q.fits.each_put d low).0) c.index-cell.ensures in
+    subst (λ t. c.index-cell.result.now < t.room) (sym c.deref-3.ensures) (subst (λ (z : ℕ). z < f.room) (sym cell) (mod-lt c.index-put.result.now f.sized.3))
+
+pub send_next-requires-clause-writing : goal.send_next-requires-clause-writing
+send_next-requires-clause-writing c = let q = c.args.self.now in let f = arc_value q.fabric in let d : ℕ = c.args.dest in let m : Sat = q.seat.seat.me in let p : Part = part_at m.0 0 in let o : Out = out_at p d in let low : d < f.peers = c.requires.below in let inside : d < length p.outs = subst (λ (z : ℕ). d < z) (sym q.fits.all_outs) low in
     let saw = c.hold_next-got.ensures.view in let r : ℕ = c.hold_next-got.result in let put = put_len _ _ _ _ _ _ _ _ _ _ _ _ q.fits d c.index-put.result.now low c.index-put.ensures in let wide : c.room-room.result ≡ p.room = c.room-room.ensures ∙ ap (λ t. t.room) c.deref-2.ensures ∙ sym q.fits.room_is in
     let mine = q.fits.each_put d low in let space : length o.posted < r + p.room = (let le = saw.0 in let t = c.if-put-got.false in omega arith) in
-    let few : greatest 0 p.moves < most = (let t = c.if-self-ge-MOST.false in let e = q.fits.clock_is in omega arith) in let took = saw.3 space few in let o₁ : Out = saw_room o r in let v₁ : View = new_out_view m.0 0 d o₁ in
-    let rooms : c.room-room.result ≡ f.room = c.room-room.ensures ∙ ap (λ t. t.room) c.deref-2.ensures in let cell : c.index-cell.result.now ≡ c.index-put.result.now % f.room = put_cell _ _ _ _ _ _ q.rounds d c.index-put.result.now c.index-cell.result.now low (put ∙ sym mine.0) c.index-cell.ensures in
-    let peers : c.peers.result ≡ f.peers = c.peers.ensures ∙ ap (λ t. t.peers) c.deref-3.ensures in
-    record { fits = subst (λ (z : ℕ × ℕ × ℕ). (q.me * z.0 + d) * z.1 + z.2 < 18446744073709551616) (λ i. (sym peers i, sym rooms i, sym cell i)) (cell_small f.peers f.room q.me d (c.index-put.result.now % f.room) f.sized.6 f.sized.4 q.fits.below low (mod-lt c.index-put.result.now f.sized.3)) }
+    let few : greatest 0 p.moves < most = (let t = c.if-self-ge-MOST.false in let e = q.fits.clock_is in omega arith) in let took = saw.3 space few in let o₁ : Out = saw_room o r in
+    let here : out_at (part_at c.hold_next-got.new.seat.seat.me.0 0) d ≡ o₁ = ap (λ (z : Sat). out_at (part_at z.0 0) d) took.1 ∙ here_out m.0 d q.at.1 inside o₁ in
+    subst (λ (z : Out). (z.writing ≡ true) × (z.claim ≡ None)) (sym here) (refl, mine.3)
+
+pub send_next-requires-clause-count : goal.send_next-requires-clause-count
+send_next-requires-clause-count c = let q = c.args.self.now in let f = arc_value q.fabric in let d : ℕ = c.args.dest in let m : Sat = q.seat.seat.me in let p : Part = part_at m.0 0 in let o : Out = out_at p d in let low : d < f.peers = c.requires.below in let inside : d < length p.outs = subst (λ (z : ℕ). d < z) (sym q.fits.all_outs) low in
+    let saw = c.hold_next-got.ensures.view in let r : ℕ = c.hold_next-got.result in let put = put_len _ _ _ _ _ _ _ _ _ _ _ _ q.fits d c.index-put.result.now low c.index-put.ensures in let wide : c.room-room.result ≡ p.room = c.room-room.ensures ∙ ap (λ t. t.room) c.deref-2.ensures ∙ sym q.fits.room_is in
+    let mine = q.fits.each_put d low in let space : length o.posted < r + p.room = (let le = saw.0 in let t = c.if-put-got.false in omega arith) in
+    let few : greatest 0 p.moves < most = (let t = c.if-self-ge-MOST.false in let e = q.fits.clock_is in omega arith) in let took = saw.3 space few in let o₁ : Out = saw_room o r in
+    let here : out_at (part_at c.hold_next-got.new.seat.seat.me.0 0) d ≡ o₁ = ap (λ (z : Sat). out_at (part_at z.0 0) d) took.1 ∙ here_out m.0 d q.at.1 inside o₁ in
+    (put ∙ ap (λ (z : Out). length z.posted) (sym here), (let le = mine.2 in let t = c.if-self-ge-MOST.false in omega arith))
+
+pub send_next-requires-clause-continues : goal.send_next-requires-clause-continues
+send_next-requires-clause-continues c = let q = c.args.self.now in let f = arc_value q.fabric in let d : ℕ = c.args.dest in let m : Sat = q.seat.seat.me in let p : Part = part_at m.0 0 in let o : Out = out_at p d in let low : d < f.peers = c.requires.below in let inside : d < length p.outs = subst (λ (z : ℕ). d < z) (sym q.fits.all_outs) low in
+    let saw = c.hold_next-got.ensures.view in let r : ℕ = c.hold_next-got.result in let put = put_len _ _ _ _ _ _ _ _ _ _ _ _ q.fits d c.index-put.result.now low c.index-put.ensures in let wide : c.room-room.result ≡ p.room = c.room-room.ensures ∙ ap (λ t. t.room) c.deref-2.ensures ∙ sym q.fits.room_is in
+    let mine = q.fits.each_put d low in let space : length o.posted < r + p.room = (let le = saw.0 in let t = c.if-put-got.false in omega arith) in
+    let few : greatest 0 p.moves < most = (let t = c.if-self-ge-MOST.false in let e = q.fits.clock_is in omega arith) in let took = saw.3 space few in let o₁ : Out = saw_room o r in
+    let here : out_at (part_at c.hold_next-got.new.seat.seat.me.0 0) d ≡ o₁ = ap (λ (z : Sat). out_at (part_at z.0 0) d) took.1 ∙ here_out m.0 d q.at.1 inside o₁ in
+    subst (λ (z : Out). Continues (last_head None (frames_of z.posted)) c.args.head) (sym here) c.requires.continues
+
+pub send_next-requires-clause-hand : goal.send_next-requires-clause-hand
+send_next-requires-clause-hand c = let q = c.args.self.now in let f = arc_value q.fabric in let d : ℕ = c.args.dest in let m : Sat = q.seat.seat.me in let p : Part = part_at m.0 0 in let o : Out = out_at p d in let low : d < f.peers = c.requires.below in let inside : d < length p.outs = subst (λ (z : ℕ). d < z) (sym q.fits.all_outs) low in
+    let saw = c.hold_next-got.ensures.view in let r : ℕ = c.hold_next-got.result in let put = put_len _ _ _ _ _ _ _ _ _ _ _ _ q.fits d c.index-put.result.now low c.index-put.ensures in let wide : c.room-room.result ≡ p.room = c.room-room.ensures ∙ ap (λ t. t.room) c.deref-2.ensures ∙ sym q.fits.room_is in
+    let mine = q.fits.each_put d low in let space : length o.posted < r + p.room = (let le = saw.0 in let t = c.if-put-got.false in omega arith) in
+    let few : greatest 0 p.moves < most = (let t = c.if-self-ge-MOST.false in let e = q.fits.clock_is in omega arith) in let took = saw.3 space few in let o₁ : Out = saw_room o r in
+    let cell : c.index-cell.result.now ≡ c.index-put.result.now % f.room = put_cell _ _ _ _ _ _ q.rounds d c.index-put.result.now c.index-cell.result.now low (put ∙ sym mine.0) c.index-cell.ensures in
+    let placed : c.cell_place-place.result ≡ next_cell m.0 0 d = c.cell_place-place.ensures ∙ ap (λ t. lane_of t.peers q.me d * t.room + c.index-cell.result.now) c.deref-3.ensures
+    ∙ (λ i. lane_of (sym q.fits.peers_is i) (sym q.fits.me_is i) d * sym q.fits.room_is i + (cell ∙ (λ j. put j % sym q.fits.room_is j)) i) in
+    (took.0, subst (λ (z : Sat). z.1 ≡ (c.cell_place-place.result, Cell took.0) ∷ rest z.1) (sym took.1) (λ i. (sym placed i, Cell took.0) ∷ m.1))
+
+pub overflow_add-put : goal.overflow_add-put
+overflow_add-put c = let q = c.args.self.now in let f = arc_value q.fabric in let d : ℕ = c.args.dest in let m : Sat = q.seat.seat.me in let p : Part = part_at m.0 0 in let o : Out = out_at p d in let low : d < f.peers = c.requires.below in let inside : d < length p.outs = subst (λ (z : ℕ). d < z) (sym q.fits.all_outs) low in
+    let put = put_len _ _ _ _ _ _ _ _ _ _ _ _ q.fits d c.index-put.result.now low c.index-put.ensures in
+    record { fits = let le = (q.fits.each_put d low).2 in let t = c.if-self-ge-MOST.false in omega arith }
+
+pub send_next-requires-clause-sized : goal.send_next-requires-clause-sized
+send_next-requires-clause-sized c = let q = c.args.self.now in let f = arc_value q.fabric in let d : ℕ = c.args.dest in let m : Sat = q.seat.seat.me in let p : Part = part_at m.0 0 in let o : Out = out_at p d in let low : d < f.peers = c.requires.below in let inside : d < length p.outs = subst (λ (z : ℕ). d < z) (sym q.fits.all_outs) low in
+    let saw = c.hold_next-got.ensures.view in let r : ℕ = c.hold_next-got.result in let put = put_len _ _ _ _ _ _ _ _ _ _ _ _ q.fits d c.index-put.result.now low c.index-put.ensures in let wide : c.room-room.result ≡ p.room = c.room-room.ensures ∙ ap (λ t. t.room) c.deref-2.ensures ∙ sym q.fits.room_is in
+    let mine = q.fits.each_put d low in let space : length o.posted < r + p.room = (let le = saw.0 in let t = c.if-put-got.false in omega arith) in
+    let few : greatest 0 p.moves < most = (let t = c.if-self-ge-MOST.false in let e = q.fits.clock_is in omega arith) in let took = saw.3 space few in let o₁ : Out = saw_room o r in
+    ap (λ (z : Sat). length (out_at (part_at z.0 0) d).tried) took.1 ∙ ap (λ (z : Out). length z.tried) (here_out m.0 d q.at.1 inside o₁) ∙ mine.4 ∙ ap (λ t. t.pool) (sym c.deref-4.ensures)
 
 pub send_next-requires-clause-alone : goal.send_next-requires-clause-alone
 send_next-requires-clause-alone c = let q = c.args.self.now in let f = arc_value q.fabric in let d : ℕ = c.args.dest in let m : Sat = q.seat.seat.me in let p : Part = part_at m.0 0 in let o : Out = out_at p d in let low : d < f.peers = c.requires.below in let inside : d < length p.outs = subst (λ (z : ℕ). d < z) (sym q.fits.all_outs) low in
