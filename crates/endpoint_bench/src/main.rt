@@ -31,6 +31,9 @@ const ALONE: u64 = 10_000;
 /// How many messages a soak has where nothing is said.
 const SOAKED: u64 = 1_000_000;
 
+/// What is printed where there is nothing to measure.
+const NONE: &str = "no such two peers among so many, or no memory";
+
 /// What is asked for on the command line.
 enum Asked {
     Nothing,
@@ -114,8 +117,9 @@ fn number(word: Option<String>) -> u64 {
 /// What each call costs in one thread, for messages of so many bytes.
 fn print_alone(rt: &HostRuntime, peers: &Peers) -> io::Result<()> {
     for len in [1, 64, COPIED] {
-        if let Some(costs) = costs(rt, rt.alloc(), len, ALONE, peers)? {
-            print_costs(rt, costs)?;
+        match costs(rt, rt.alloc(), len, ALONE, peers)? {
+            Some(costs) => print_costs(rt, costs)?,
+            None => return println!(rt; "{NONE}"),
         }
     }
     Ok(())
@@ -125,6 +129,9 @@ fn main(rt: HostRuntime) -> io::Result<()> {
     match read_words(&rt)? {
         Asked::Bench { is_touched, peers } => {
             let all = all_times(&rt, rt.alloc(), RUNS, is_touched, peers)?;
+            if all.is_empty() {
+                return println!(rt; "{NONE}");
+            }
             print_table(&rt, all)
         }
         Asked::Soak { messages, peers } => {

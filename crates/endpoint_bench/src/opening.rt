@@ -3,7 +3,7 @@ use crate::measuring::{Measure, exchanges, times_between};
 use crate::speaker::{COPIED, Speaker};
 use fab_bench::alone::{Costs, alone};
 use fab_bench::runs::Times;
-use fabric::{Calls, Cap, Domain, EndpointOver, Hints, open};
+use fabric::{Api, Calls, Cap, Domain, EndpointOver, Hints, open};
 use std::alloc::Global;
 use std::io;
 use std::sync::Wait;
@@ -55,9 +55,10 @@ impl<E: Calls + Drop> Opened<E> {
     }
 }
 
-/// Tagged messages between so many peers, over lanes and pools of 64 places.
+/// Tagged messages between so many peers, over lanes and pools of 64 places. The first version has no more than 32 peers.
 fn wishes(peers: &Peers) -> Hints {
     Hints::new()
+        .api(Api::Two)
         .cap(Cap::Tagged)
         .sleeping(peers.sleeping)
         .peers(peers.all)
