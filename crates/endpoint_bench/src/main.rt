@@ -141,7 +141,10 @@ fn main(rt: HostRuntime) -> io::Result<()> {
                 is_touched: false,
                 peers,
             };
-            let _times = times(&rt, rt.alloc(), &measure)?;
+            let soaked = times(&rt, rt.alloc(), &measure)?;
+            if soaked.is_empty() {
+                return println!(rt; "{NONE}");
+            }
             println!(rt; "{messages} messages")
         }
         Asked::Alone { peers } => print_alone(&rt, &peers),
