@@ -3,3 +3,4 @@ pub mod Numbers
 pub mod Options
 pub mod Lists
 pub mod Places
+pub mod Capabilities
