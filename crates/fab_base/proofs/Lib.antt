@@ -3,3 +3,5 @@ pub mod Numbers
 pub mod Options
 pub mod Lists
 pub mod Places
+pub mod Members
+pub mod Counts

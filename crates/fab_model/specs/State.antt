@@ -5,7 +5,7 @@
 --     State          these, the address vector (fi_av(3)), the regions (fi_mr(3)) and the counters (fi_cntr(3))
 --     Receive, Arrival, Coming, Operation, Held, Written and Tally are types of fab_base
 --     slice_index xs t of numbers, slice_index_or xs t d of others: a list by peer at peer t
-use Rattle.std.specs.Prelude.{ℕ, ◌+◌, ◌-◌, min, Bool, true, false, not, ◌==◌, nat_lt, nat_le, List, [], ◌∷◌, ◌++◌, length, Option, Some, None, slice_index, slice_index_or, slice_set, count_by, sum_by}
+use Rattle.std.specs.Prelude.{ℕ, ◌+◌, ◌-◌, min, Bool, true, false, not, ◌==◌, nat_lt, nat_le, List, [], ◌∷◌, ◌++◌, length, map, Option, Some, None, slice_index, slice_index_or, slice_set, count_by, sum_by}
 use Rattle.std.specs.List.{list_any}
 use Rattle.fab_base.specs.declared.items.Item.{Item}
 use Rattle.fab_base.specs.declared.items.Access.{Access}
