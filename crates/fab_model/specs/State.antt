@@ -50,6 +50,15 @@ is_into call (Some Request) = false
 is_into call (Some Answer) = false
 is_into call None = false
 
+-- the message that is coming is kept for a receive to come
+abbrev pub is_keep : Option Coming → Bool
+is_keep None = false
+is_keep (Some (Into receive place)) = false
+is_keep (Some Keep) = true
+is_keep (Some Throw) = false
+is_keep (Some Request) = false
+is_keep (Some Answer) = false
+
 -- an item of the receive made by this call has arrived and is not whole
 abbrev pub under_way : Receiving → ℕ → Bool
 under_way rx call = list_any (is_into call) rx.coming
@@ -104,6 +113,10 @@ pub record Completions : Type 0 where
 -- the entries unread are at most as many as there may be
 abbrev pub fits : Completions → Bool
 fits cq = nat_le (length cq.written - cq.taken_out) cq.size
+
+-- the entries without the numbers of their calls
+abbrev pub entries_of : List Written → List Taken
+entries_of ws = map (λ (w : Written). w.entry) ws
 
 abbrev pub writing : Option ℕ → Taken → Completions → Completions
 writing call entry cq = record cq { written = cq.written ++ record { call = call; entry = entry } ∷ [] }
