@@ -5,7 +5,7 @@ use mathlib.Core.Logic.{dite}
 use native.Mathlib.Decide.{ℕ_discrete}
 use Rattle.fab_link.specs.declared.moves.Move.{Move}
 use Rattle.fab_link.specs.declared.moves.Move.TheVariants.{Post, Take}
-use Rattle.fab_link.specs.Merged.{IsStampedAbove, posts_to, takes_of, stamp, greatest}
+use Rattle.fab_link.specs.Merged.{posts_to, takes_of}
 use Rattle.fab_queue.specs.declared.lane.Sent.{Sent}
 use Rattle.std.specs.Prelude.{Some, IsSome}
 use Rattle.fab_base.proofs.Lists.{cond_more}

@@ -2,10 +2,9 @@
 --     Queued                its number, its ends by peer, and the order of what was posted and taken
 --     out_of, in_of         its ends in the words of all ports
 --     IsTold                the order tells what was posted and taken, and is stamped
-use Rattle.std.specs.Prelude.{◌≡◌, ℕ, ◌^◌, ◌<◌, max, List, [], ◌∷◌, length, map, None, slice_index_or, slice_set}
+use Rattle.std.specs.Prelude.{◌≡◌, ℕ, ◌^◌, ◌<◌, List, [], length, map, None, slice_index_or, slice_set}
 use Rattle.atomic_table.specs.Seated.{TableId}
 use Rattle.fab_link.specs.declared.moves.Move.{Move}
-use Rattle.fab_link.specs.declared.moves.Move.TheVariants.{Post, Take}
 use Rattle.fab_link.specs.Merged.{IsStamped, posts_to, takes_of, greatest}
 use Rattle.fab_link.specs.Meaning.{Outgoing, Incoming}
 use Rattle.fab_queue.specs.declared.lane.Sent.{Sent}
