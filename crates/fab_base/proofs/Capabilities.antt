@@ -1,7 +1,8 @@
 -- Sets of capabilities: what holds of each of all, and what a set that is made has.
-use Rattle.std.proofs.Common.{◌≡◌, ◌<◌, Bool, false, true, List, [], ◌∷◌, length, map, get_or, refl, sym, ◌∙◌, ap, arith}
-use Rattle.std.specs.List.{list_all, list_any}
-use Rattle.std.proofs.lemmas.List.{get_or-map}
+use Rattle.std.proofs.Common.{◌≡◌, ℕ, ◌<◌, Bool, false, true, List, [], ◌∷◌, length, map, get_or, refl, sym, ◌∙◌, ap, arith}
+use Rattle.std.specs.List.{list_all, list_any, range_with_len}
+use Rattle.std.proofs.lemmas.List.{ext_get_or, get_or-map}
+use Rattle.std.proofs.lemmas.List.FromFn.{get_or-range_with_len}
 use Rattle.std.proofs.lemmas.List.Folds.{list_any_at, list_all_at}
 use Rattle.fab_base.specs.Granted.{all_caps, cap_index, caps_of, has}
 use Rattle.fab_base.specs.declared.caps.Cap.{Cap}
@@ -52,13 +53,20 @@ each_cap test all cap = by (test cap) refl
 pub has_caps_of : (member : Cap → Bool) (cap : Cap) → has (caps_of member) cap ≡ member cap
 has_caps_of member cap = get_or-map member all_caps (cap_index cap) Msg false (index_below cap) ∙ ap member (cap_at cap)
 
+-- the capability at an index has that index
+indices : map cap_index all_caps ≡ range_with_len 0 16
+indices = refl
+
+index_at : (i : ℕ) → i < 16 → cap_index (get_or all_caps i Msg) ≡ i
+index_at i below =
+    sym (get_or-map cap_index all_caps i Msg 0 below) ∙ ap (λ is. get_or is i 0) indices ∙ (get_or-range_with_len 0 16 i 0 below ∙ omega arith)
+
 -- a set is what it says of each capability
 pub caps_of_has : (caps : Caps) (member : Cap → Bool) → length caps.members ≡ length all_caps → ((cap : Cap) → has caps cap ≡ member cap) → caps ≡ caps_of member
-caps_of_has caps member l h = ap (λ (ms : List Bool). record { members = ms }) (read caps.members l ∙ map_same all_caps (has caps) member h)
+caps_of_has caps member l says =
+    ap (λ (ms : List Bool). record { members = ms }) (ext_get_or false caps.members (map member all_caps) l each)
   where
-    read : (ms : List Bool) → length ms ≡ length all_caps → ms ≡ map (λ cap. get_or ms (cap_index cap) false) all_caps
-    read (a ∷ b ∷ c ∷ d ∷ e ∷ f ∷ g ∷ h ∷ i ∷ j ∷ k ∷ l ∷ m ∷ n ∷ o ∷ p ∷ []) same = refl
-
-    map_same : (cs : List Cap) (f g : Cap → Bool) → ((cap : Cap) → f cap ≡ g cap) → map f cs ≡ map g cs
-    map_same [] f g same = refl
-    map_same (c ∷ cs) f g same = rw (same c, map_same cs f g same)
+    each : (i : ℕ) → i < length caps.members → get_or caps.members i false ≡ get_or (map member all_caps) i false
+    each i at =
+        let below : i < 16 = omega (arith, l, at) in
+        sym (ap (λ k. get_or caps.members k false) (index_at i below)) ∙ says (get_or all_caps i Msg) ∙ sym (get_or-map member all_caps i Msg false below)

@@ -4,3 +4,5 @@ pub mod Options
 pub mod Lists
 pub mod Places
 pub mod Capabilities
+pub mod Members
+pub mod Counts

@@ -1,7 +1,10 @@
 -- The elements of an atomic (fi_atomic(3), "Atomic Data Types" and "Atomic Operations").
 --     element_size num      how many bytes an element has
 --     is_of_form op form    the operation may be asked for in this form
+--     operand_bytes op n    how many bytes the operand has for a range of n bytes: none for a read
+--     atom op num form      the operation on elements of this type, in this form
 use Rattle.std.specs.Prelude.{ℕ, Bool, true, false}
+use Rattle.fab_base.specs.declared.items.Atom.{Atom}
 use Rattle.fab_base.specs.declared.items.AtomicOp.{AtomicOp}
 use Rattle.fab_base.specs.declared.items.AtomicOp.TheVariants.{AtomicRead, Cswap, CswapNe, CswapLe, CswapLt, CswapGe, CswapGt, Mswap}
 use Rattle.fab_base.specs.declared.items.Form.{Form}
@@ -30,3 +33,10 @@ is_of_form CswapGe form = elim form [ Compare ↦ true | Base ↦ false | Fetch 
 is_of_form CswapGt form = elim form [ Compare ↦ true | Base ↦ false | Fetch ↦ false ]
 is_of_form Mswap form = elim form [ Compare ↦ true | Base ↦ false | Fetch ↦ false ]
 is_of_form op form = elim form [ Compare ↦ false | Base ↦ true | Fetch ↦ true ]
+
+abbrev pub operand_bytes : AtomicOp → ℕ → ℕ
+operand_bytes AtomicRead n = 0
+operand_bytes op n = n
+
+abbrev pub atom : AtomicOp → Num → Form → Atom
+atom op num form = record { op = op; num = num; form = form }

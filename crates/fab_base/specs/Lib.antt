@@ -4,3 +4,7 @@ pub mod Offer
 pub mod Counts
 pub mod Replies
 pub mod Kinds
+pub mod Members
+pub mod Many
+pub mod Begun
+pub mod Lines

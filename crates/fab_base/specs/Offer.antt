@@ -1,4 +1,5 @@
 -- What the provider offers in each version of its interface (fi_getinfo(3)): the limits of each size, and the capabilities.
+--     version_of api          its number
 --     limits_of api size      its least value, the one granted without a wish, and its greatest
 --     is_offered api cap      the capability may be asked for
 use Rattle.std.specs.Prelude.{ℕ, Bool, true, false}
@@ -10,6 +11,10 @@ use Rattle.fab_base.specs.declared.limits.TheConstants.{INJECT_BYTES, MESSAGE_BY
 use Rattle.fab_base.specs.declared.limits.Limits.{Limits}
 use Rattle.fab_base.specs.declared.limits.Size.{Size}
 use Rattle.fab_base.specs.declared.limits.Size.TheVariants.{Peers, Lane, Pool, Tx, Rx, Cq, Log, Inject, Message}
+
+abbrev pub version_of : Api → ℕ
+version_of One = 1
+version_of Two = 2
 
 abbrev pub limits : ℕ → ℕ → ℕ → Limits
 limits least default greatest = record { least = least; default = default; greatest = greatest }

@@ -1,10 +1,12 @@
 -- Replies, and the items that owe one.
 --     is_reply kind       an item of this kind is a reply
+--     is_answer op item   the item is a reply to the operation
 --     at_either ack       a reply is asked for, at delivery or at match
 --     owes head           the item owes a reply
-use Rattle.std.specs.Prelude.{Bool, true, false}
+use Rattle.std.specs.Prelude.{ℕ, Bool, true, false, ◌&&◌, ◌==◌}
 use Rattle.fab_base.specs.declared.items.Ack.{Ack}
 use Rattle.fab_base.specs.declared.items.Ack.TheVariants.{Nothing, Delivery, Match}
+use Rattle.fab_base.specs.declared.items.Item.{Item}
 use Rattle.fab_base.specs.declared.items.ItemHead.{ItemHead}
 use Rattle.fab_base.specs.declared.items.Kind.{Kind}
 use Rattle.fab_base.specs.declared.items.Kind.TheVariants.{Msg, TagMsg, WriteReq, ReadReq, AtomicReq, Reply}
@@ -16,6 +18,9 @@ is_reply WriteReq = false
 is_reply ReadReq = false
 is_reply AtomicReq = false
 is_reply Reply = true
+
+abbrev pub is_answer : ℕ → Item → Bool
+is_answer op item = is_reply item.head.kind && (item.head.op == op)
 
 abbrev pub at_either : Ack → Bool
 at_either Nothing = false

@@ -1,13 +1,13 @@
 -- The loop that lets operations out: each turn lets the first one out.
-use Rattle.std.proofs.Common.{◌≡◌, ◌<◌, ◌+◌, ◌-◌, ◌&&◌, ℕ, false, List, [], ◌∷◌, ◌++◌, length, get_or, remove, set-set, sum_by, take, sym, ◌∙◌, ap, subst, arith, length-set}
+use Rattle.std.proofs.Common.{◌≡◌, ◌<◌, ◌+◌, ◌-◌, ◌&&◌, ℕ, false, List, [], ◌∷◌, ◌++◌, length, get_or, remove, sum_by, take, sym, ◌∙◌, ap, subst, arith, length-set}
 use Rattle.std.specs.Prelude.{nat_le, ◌==◌}
 use Rattle.std.proofs.lemmas.Bool.Decides.{nat_tests}
 use Rattle.std.proofs.lemmas.List.Sums.{sum_by_more}
 use Rattle.fab_base.specs.declared.operations.Held.{Held}
 use Rattle.fab_model.specs.State.{Transmitting, accepted_for, held_for}
-use Rattle.fab_model.specs.Sending.{is_busy, letting_out, going_on, accepting}
-use Rattle.fab_model.proofs.Letting.{first_goes}
-use Rattle.fab_checker_halves.specs.Letting.{going_out, holding, SomeFirst}
+use Rattle.fab_model.specs.Sending.{is_busy, letting_out, going_on, accepting, going_out, holding}
+use Rattle.fab_model.proofs.Letting.{first_goes, letting_out-holding}
+use Rattle.fab_checker_halves.specs.Letting.{SomeFirst}
 
 pub record Lets (t : ℕ) (held rest : List Held) (tx next : Transmitting) : Type 0 where
   pub same : letting_out t rest next ≡ letting_out t held tx
@@ -28,12 +28,6 @@ first_lets t (o ∷ held) rest tx next first lt free is gone goes =
 pub lets_first : (t : ℕ) (seen held rest : List Held) (tx next : Transmitting) (first : Held) → seen ≡ held → t < length tx.accepted → SomeFirst seen (λ o. (is_busy tx t && o.fence) ≡ false) → first ≡ get_or held 0 first
     → rest ≡ remove held 0 → next ≡ going_out t first tx → Lets t held rest tx next
 lets_first t seen held rest tx next first same lt free is gone goes = first_lets t held rest tx next first lt (subst (λ hs. SomeFirst hs (λ o. (is_busy tx t && o.fence) ≡ false)) same free) is gone goes
-
--- what stands in the place of what is held is written over
-pub letting_out-holding : (t : ℕ) (held before : List Held) (tx : Transmitting) → letting_out t held (holding t before tx) ≡ letting_out t held tx
-unfolding letting_out
-letting_out-holding t held before tx =
-    ap (λ h. let u : Transmitting = letting_out t held tx in record u { held = h }) (set-set tx.held t before _)
 
 pub went_on : (t : ℕ) (held : List Held) (tx mid : Transmitting) → held ≡ held_for tx t → mid ≡ holding t [] tx → letting_out t held mid ≡ going_on t tx
 went_on t held tx mid is taken = ap (λ hs. letting_out t hs mid) is ∙ ap (letting_out t (held_for tx t)) taken ∙ letting_out-holding t (held_for tx t) [] tx

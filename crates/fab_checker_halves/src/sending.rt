@@ -3,9 +3,9 @@ ghost use Rattle.std.specs.Prelude.{◌≡◌, length, OnOk, IfOk, IfNone, find,
 ghost use Rattle.std.specs.Option.{option_map};
 ghost use Rattle.fab_model.specs.State.{accepted_for, held_for, in_use, awaits};
 ghost use Rattle.fab_model.specs.Matching.{remove_first};
-ghost use Rattle.fab_model.specs.Sending.{is_busy, let_out, letting_out, going_on, accepting, ends_at_sent, is_of_item, ending, transmitting, expects, is_answered_by, answering};
+ghost use Rattle.fab_model.specs.Sending.{is_busy, let_out, letting_out, going_on, accepting, ends_at_sent, is_of_item, ending, transmitting, expects, is_answered_by, answering, going_out, holding};
 ghost use Rattle.fab_checker_halves.specs.Seen.{tx_of};
-ghost use Rattle.fab_checker_halves.specs.Letting.{going_out, holding, SomeFirst};
+ghost use Rattle.fab_checker_halves.specs.Letting.{SomeFirst};
 
 use crate::halves::Transmitting;
 use fab_base::{Ack, Held, ItemHead, List, NoMemory, Operation, Outcome};

@@ -24,6 +24,7 @@ use Rattle.fab_face.specs.Owed.{is_answer, is_debt, is_pledge}
 use Rattle.fab_face.proofs.Counts.{one, count_snoc, count_removed, count_map}
 use Rattle.fab_face.proofs.Letting.{lets_post}
 use Rattle.fab_face.proofs.Owed.{Keeps, keeps_same, Gone, gone_unexpected, gone_claimed, gives, drops, release_keeps}
+use Rattle.fab_model.proofs.Claims.{claim_is}
 
 module _ (s : State) where
   keeps : Keeps s s
@@ -96,15 +97,8 @@ module _ (s : State) where
       go None f = keeps_same s _ refl refl refl refl
       go (Some a) f = at how a (write (Some s.calls) (Success (peeked how ctx a)) (called s)) refl refl f
 
-  claim_is : (ctx : ℕ) (a : Arrival) → claim_of ctx s ≡ Some a → (c : ℕ × Arrival) × (find (λ (c : ℕ × Arrival). c.0 == ctx) s.rx.claimed ≡ Some c) × (c.1 ≡ a)
-  claim_is ctx a e = go (find (λ (c : ℕ × Arrival). c.0 == ctx) s.rx.claimed) refl e
-    where
-      go : (o : Option (ℕ × Arrival)) → find (λ (c : ℕ × Arrival). c.0 == ctx) s.rx.claimed ≡ o → elim o [ None ↦ None | Some c ↦ Some c.1 ] ≡ Some a → (c : ℕ × Arrival) × (find (λ (c : ℕ × Arrival). c.0 == ctx) s.rx.claimed ≡ Some c) × (c.1 ≡ a)
-      go None f e = absurd (cc (e))
-      go (Some c) f e = (c, f, cc)
-
   gone_claim : (ctx : ℕ) (a : Arrival) (u : State) → claim_of ctx s ≡ Some a → u.tx ≡ s.tx → u.rx.unexpected ≡ s.rx.unexpected → u.rx.claimed ≡ remove_first (λ (c : ℕ × Arrival). c.0 == ctx) s.rx.claimed → u.rx.coming ≡ s.rx.coming → Gone s u a
-  gone_claim ctx a u e tx us cs coming = let i = claim_is ctx a e in subst (λ x. Gone s u x) i.2 (gone_claimed (λ (c : ℕ × Arrival). c.0 == ctx) s u i.0 i.1 tx us cs coming)
+  gone_claim ctx a u e tx us cs coming = let i = claim_is s ctx a e in subst (λ x. Gone s u x) i.2 (gone_claimed (λ (c : ℕ × Arrival). c.0 == ctx) s u i.0 i.1 tx us cs coming)
 
   takes_claimed : (buf : List ℕ) (ctx : ℕ) → Keeps s (take_claimed s buf ctx)
   unfolding take_claimed

@@ -24,6 +24,7 @@ use Rattle.fab_model.specs.Arrivals.{do_head, do_draw, do_tail}
 use Rattle.fab_base.specs.declared.entries.Taken.TheVariants.{Success, Failure}
 use Rattle.fab_base.specs.declared.entries.Entry.TheVariants.{Released}
 use Rattle.fab_base.specs.declared.entries.ErrKind.TheVariants.{Canceled}
+pub use Rattle.fab_base.specs.Members.{only}
 use Rattle.fab_model.specs.Matching.{remove_first}
 use Rattle.fab_model.specs.Calls.{Call, Post as CallPost, do_call}
 use Rattle.fab_model.specs.Peers.{unread, reading, same_ctx}
@@ -104,10 +105,6 @@ GoesBy call h [] t = h ≡ t
 GoesBy call h (act ∷ acts) t = (mid : Held) × Goes call h act mid × GoesBy call mid acts t
 
 -- ---- what acts say
-
-abbrev pub only : {X : Type 0} → Bool → X → List X
-only true x = x ∷ []
-only false x = []
 
 -- what an act logs: nothing for a read
 abbrev pub logged : Act → List Event

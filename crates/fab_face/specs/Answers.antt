@@ -30,14 +30,12 @@ use Rattle.fab_model.specs.Receiving.{draw_due}
 use Rattle.fab_model.specs.Sending.{do_sent}
 use Rattle.fab_model.specs.Arrivals.{do_draw, do_tail}
 use Rattle.fab_model.specs.Calls.{Call, Post, do_call}
-use Rattle.fab_base.specs.declared.items.Atom.{Atom}
-use Rattle.fab_base.specs.declared.items.AtomicOp.{AtomicOp}
-use Rattle.fab_base.specs.declared.items.Num.{Num}
-use Rattle.fab_base.specs.declared.items.Form.{Form}
 use Rattle.std.specs.Prelude.{◌==◌, map, find, is_some, slice_get, slice_set, take, drop, Contains}
 use Rattle.std.specs.Option.{option_map}
 use Rattle.fab_base.specs.declared.entries.Class.{Class}
 use Rattle.fab_base.specs.declared.entries.Entry.TheVariants.{Released}
+pub use Rattle.fab_base.specs.Lines.{is_final}
+pub use Rattle.fab_base.specs.Elements.{atom}
 use Rattle.fab_av.specs.Addresses.{inserting}
 use Rattle.fab_av.specs.declared.addresses.InsertReport.{InsertReport}
 use Rattle.fab_model.specs.Peers.{unread, multi_buf, part_of}
@@ -211,12 +209,6 @@ pub record Progressed {Home : Type 0} (fixed : Bool) (budget : ℕ) (old new : S
 
 -- ---- transmit and receive calls
 
--- the machine refuses for a reason that does not pass
-abbrev pub is_final : LineResult → Bool
-is_final (Refused (Again busy)) = false
-is_final (Refused fault) = true
-is_final _ = false
-
 -- why a call is refused that leaves the endpoint `new`: the fault is the machine's there. What the machine does not know is that the log is full, which is judged behind the refusals that do not pass, and that memory is lacking
 abbrev pub Judged : {Home : Type 0} → Call → Seen Home → Seen Home → Type 0 → Fault → Type 0
 Judged call old new short (Again (LogFull n)) = (n ≡ old.log_size) × short × (is_final (do_call new.held.state call).0 ≡ false)
@@ -379,9 +371,6 @@ pub record ReadsOn {Home : Type 0} (fixed : Bool) (budget : ℕ) (old new : Seen
 
 abbrev pub receive_call : Bool → Option ℕ → ℕ → ℕ → List ℕ → Option ℕ → ℕ → Call
 receive_call tagged source tag ignore buf least ctx = Post (record { tagged = tagged; source = source; tag = tag; ignore = ignore; buf = buf; least = least; ctx = ctx })
-
-abbrev pub atom : AtomicOp → Num → Form → Atom
-atom op num form = record { op = op; num = num; form = form }
 
 -- ---- addresses and counters
 

@@ -11,6 +11,7 @@ use Rattle.fab_base.specs.declared.limits.TheConstants.{FRAME_BYTES}
 use Rattle.fab_base.specs.declared.items.Item.{Item}
 use Rattle.fab_base.specs.declared.frames.FrameHead.{FrameHead}
 use Rattle.fab_base.specs.declared.frames.Frame.{Frame}
+pub use Rattle.fab_base.specs.Begun.{count_begun}
 use Rattle.fab_link.specs.declared.moves.Move.{Move}
 use Rattle.fab_link.specs.Cut.{frame_of, IsBetweenItems, IsItem}
 use Rattle.fab_link.specs.Frames.{IsSound}
@@ -104,10 +105,6 @@ IsPlaced end (suc k) (Some item) = IsWithin end item (suc k)
 abbrev pub IsGathered : Option FrameHead → Option Item → Type 0
 IsGathered end None = IsBetweenItems end
 IsGathered end (Some item) = IsWithin end item (length item.bytes)
-
-abbrev pub count_begun : Option Item → ℕ
-count_begun None = 0
-count_begun (Some item) = 1
 
 -- ---- replies
 

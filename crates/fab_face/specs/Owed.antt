@@ -14,15 +14,13 @@ use Rattle.fab_base.specs.declared.items.ItemHead.{ItemHead}
 use Rattle.fab_base.specs.declared.operations.Arrival.{Arrival}
 use Rattle.fab_base.specs.declared.operations.Coming.{Coming}
 use Rattle.fab_base.specs.declared.operations.Coming.TheVariants.{Into, Keep, Throw, Request, Answer}
-use Rattle.fab_base.specs.Replies.{is_reply, owes, at_either}
+use Rattle.fab_base.specs.Replies.{owes, at_either}
 use Rattle.fab_base.specs.Kinds.{at_delivery, at_match}
+pub use Rattle.fab_base.specs.Replies.{is_answer}
 use Rattle.fab_model.specs.State.{State, Receiving, Transmitting, accepted_for, held_for, coming_from}
 use Rattle.fab_model.specs.Sending.{items_of}
 
 -- ---- booked, and not begun
-
-abbrev pub is_answer : ℕ → Item → Bool
-is_answer op item = is_reply item.head.kind && (item.head.op == op)
 
 -- the first of them is begun where some of its bytes are posted
 abbrev pub unbegun : ℕ → ℕ → List Item → List Item

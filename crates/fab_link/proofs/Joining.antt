@@ -11,7 +11,8 @@ use mathlib.Core.List.{IsPrefix}
 use Rattle.fab_base.specs.declared.frames.Frame.{Frame}
 use Rattle.fab_base.specs.declared.items.Item.{Item}
 use Rattle.fab_link.specs.Cut.{frame_count, heads_from, frame_of, cut, cut_all, IsItem}
-use Rattle.fab_link.specs.Joined.{is_last, Gathered, nothing, bytes_of, grown, with_frame, joined, IsBegun, AreFirst}
+use Rattle.fab_link.specs.Joined.{is_last, Gathered, nothing, grown, with_frame, joined, IsBegun, AreFirst}
+use Rattle.fab_base.specs.Begun.{bytes_begun as bytes_of}
 
 -- the next frame of an item
 abbrev frame_at : Item → ℕ → Frame

@@ -10,7 +10,8 @@ use Rattle.std.proofs.lemmas.Option.{unwrap_or-slice_get, slice_get_within, slic
 use mathlib.Core.List.{IsPrefix}
 use Rattle.fab_link.specs.declared.moves.Move.{Move}
 use Rattle.fab_link.specs.declared.moves.Move.TheVariants.{Post, Take}
-use Rattle.fab_link.specs.Merged.{IsStampedAbove, IsStamped, posts_to, takes_of, Merging, with_inside, after_take, turn_with, turn, lowest_turn, merged_for, merges}
+use Rattle.fab_base.proofs.Numbers.{max_next}
+use Rattle.fab_link.specs.Merged.{greatest, stamp, IsStampedAbove, IsStamped, posts_to, takes_of, Merging, with_inside, after_take, turn_with, turn, lowest_turn, merged_for, merges}
 
 -- the moves that a peer has left
 abbrev moves_of : List (List Move) → ℕ → List Move
@@ -293,6 +294,16 @@ stamped_merge moves stamped fed =
       lanes = λ s d. ([], refl, fed s d);
     } in
     all_empty (merged_for (sum_by length moves) m).left (all_used (sum_by length moves) m ordered (omega arith))
+
+pub greatest_more : (g : ℕ) (ms : List Move) (m : Move) → greatest g (ms ++ m ∷ []) ≡ max (greatest g ms) (stamp m)
+greatest_more g [] m = refl
+greatest_more g (x ∷ xs) m = greatest_more (max g (stamp x)) xs m
+
+-- a post behind moves has the number after the greatest of them
+pub stamped_post : (g : ℕ) (ms : List Move) (d k : ℕ) → IsStampedAbove g ms → k ≡ greatest g ms + 1 → IsStampedAbove g (ms ++ Post d k ∷ [])
+stamped_post g [] d k s next = (next, tt)
+stamped_post g (Post e j ∷ xs) d k s next = (s.0, stamped_post j xs d k s.1 (next ∙ ap (λ (z : ℕ). greatest z xs + 1) (sym (max_next g j s.0))))
+stamped_post g (Take e j ∷ xs) d k s next = stamped_post (max g j) xs d k s next
 
 -- a take behind moves asks for no stamp
 pub stamped_take : (g : ℕ) (ms : List Move) (d k : ℕ) → IsStampedAbove g ms → IsStampedAbove g (ms ++ Take d k ∷ [])

@@ -15,14 +15,13 @@ use Rattle.fab_base.specs.declared.frames.Frame.{Frame}
 use Rattle.fab_base.specs.declared.frames.FrameRef.{FrameRef}
 use Rattle.fab_base.specs.declared.items.ItemHead.{ItemHead}
 use Rattle.fab_base.specs.declared.items.Atom.{Atom}
-use Rattle.fab_base.specs.declared.items.AtomicOp.{AtomicOp}
-use Rattle.fab_base.specs.declared.items.AtomicOp.TheVariants.{AtomicRead}
 use Rattle.fab_base.specs.declared.items.Form.{Form}
 use Rattle.fab_base.specs.declared.items.Form.TheVariants.{Base, Fetch, Compare}
 use Rattle.fab_base.specs.declared.items.Kind.{Kind}
 use Rattle.fab_base.specs.declared.items.Kind.TheVariants.{AtomicReq, Reply}
 use Rattle.fab_base.specs.declared.items.Outcome.TheVariants.{Done}
 use Rattle.fab_base.specs.Elements.{element_size, is_of_form}
+pub use Rattle.fab_base.specs.Elements.{operand_bytes}
 
 -- the frame of this head and these bytes
 abbrev pub frame : FrameHead → List ℕ → Frame
@@ -40,11 +39,6 @@ IsLast h = h.from + h.len ≡ h.item.total
 abbrev pub last_head : Option FrameHead → List Frame → Option FrameHead
 last_head before [] = before
 last_head before (f ∷ fs) = last_head (Some f.head) fs
-
--- how many bytes the operand of an atomic has that reaches `count` bytes
-abbrev pub operand_bytes : AtomicOp → ℕ → ℕ
-operand_bytes AtomicRead count = 0
-operand_bytes op count = count
 
 -- how many bytes it is compared with
 abbrev pub compare_bytes : Form → ℕ → ℕ

@@ -5,13 +5,14 @@
 --     joined frames           what the frames of a lane join to
 --     Tells head before after the part agrees with what was joined before the frame and with it
 --     AreFirst g items        these are the first of the items: some whole, and the first bytes of the next
-use Rattle.std.specs.Prelude.{◌≡◌, ℕ, ◌+◌, Bool, true, false, ◌==◌, if◌then◌else◌, List, [], ◌∷◌, ◌++◌, Option, Some, None, is_none, fold}
+use Rattle.std.specs.Prelude.{◌≡◌, ◌+◌, Bool, true, false, ◌==◌, if◌then◌else◌, List, [], ◌∷◌, ◌++◌, Option, Some, None, is_none, fold}
 use mathlib.Core.List.{IsPrefix}
 use Rattle.fab_base.specs.declared.frames.FrameHead.{FrameHead}
 use Rattle.fab_base.specs.declared.frames.Frame.{Frame}
 use Rattle.fab_base.specs.declared.items.Item.{Item}
 use Rattle.fab_link.specs.declared.joiner.Joined.{Joined}
 use Rattle.fab_link.specs.declared.joiner.Joined.TheVariants.{Whole, First, Middle, Last}
+pub use Rattle.fab_base.specs.Begun.{bytes_begun as bytes_of}
 
 abbrev pub is_last : FrameHead → Bool
 is_last h = h.from + h.len == h.item.total
@@ -40,11 +41,6 @@ pub record Gathered : Type 0 where
 
 abbrev pub nothing : Gathered
 nothing = record { whole = []; unfinished = None }
-
--- the bytes of an unfinished item
-abbrev pub bytes_of : Option Item → List ℕ
-bytes_of None = []
-bytes_of (Some item) = item.bytes
 
 -- the item of this frame, as far as it came
 abbrev pub grown : Option Item → Frame → Item

@@ -1,13 +1,27 @@
 -- The posts and takes of all peers, in one order.
 --     IsStamped moves       each post of a peer has the number after the greatest before it
+--     stamp m               the number of the move
+--     greatest g moves      the greatest of g and the numbers of these moves
+--     most_stamp            the greatest number that a frame may have
 --     posts_to d moves      the numbers of the frames posted to d
 --     takes_of s moves      the numbers of the frames taken of s
 --     merges moves          a test: in each turn the lowest-numbered peer whose next move stands uses it, and no move is left
-use Rattle.std.specs.Prelude.{◌≡◌, ℕ, zero, suc, ◌+◌, max, Bool, ◌==◌, ◌&&◌, if◌then◌else◌, List, [], ◌∷◌, length, sum_by, Option, Some, None, slice_get, slice_set}
+use Rattle.std.specs.Prelude.{◌≡◌, ℕ, zero, suc, ◌+◌, ◌^◌, max, Bool, ◌==◌, ◌&&◌, if◌then◌else◌, List, [], ◌∷◌, length, sum_by, Option, Some, None, slice_get, slice_set}
 use Rattle.std.specs.List.{list_all}
 use Rattle.std.specs.Option.{option_or, option_map}
 use Rattle.fab_link.specs.declared.moves.Move.{Move}
 use Rattle.fab_link.specs.declared.moves.Move.TheVariants.{Post, Take}
+
+abbrev pub stamp : Move → ℕ
+stamp (Post d k) = k
+stamp (Take s k) = k
+
+abbrev pub greatest : ℕ → List Move → ℕ
+greatest g [] = g
+greatest g (m ∷ moves) = greatest (max g (stamp m)) moves
+
+abbrev pub most_stamp : ℕ
+most_stamp = 2 ^ 62
 
 -- the same, where g is the greatest number before these moves
 abbrev pub IsStampedAbove : ℕ → List Move → Type 0

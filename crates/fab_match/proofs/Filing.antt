@@ -10,10 +10,12 @@ use Rattle.slab.specs.Slab.{Slab, get}
 use Rattle.fab_model.specs.Matching.{remove_first}
 use Rattle.fab_match.specs.declared.bucket.Card.{Card}
 use Rattle.fab_match.specs.declared.chains.Chains.{Chains}
-use Rattle.fab_match.specs.Each.{Each, Lacks, others}
+use Rattle.fab_match.specs.Others.{others}
+use Rattle.fab_base.specs.Members.{Each, Lacks}
 use Rattle.fab_match.specs.Chains.{IsChain}
 use Rattle.fab_match.specs.Bucket.{passes, held, listed, IsFiled}
-use Rattle.fab_match.proofs.Lists.{Each-filter, Each-map, find-filter, find-same, filter-same}
+use Rattle.fab_match.proofs.Lists.{Each-filter, find-filter, find-same, filter-same}
+use Rattle.fab_base.proofs.Members.{Each-map}
 
 module _ {X : Type 0} (cards : Slab (Card X)) where
   pub listed-append : (xs ys : List ℕ) → listed cards (xs ++ ys) ≡ listed cards xs ++ listed cards ys

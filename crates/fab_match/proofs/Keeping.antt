@@ -9,13 +9,15 @@ use Rattle.fab_model.specs.Matching.{remove_first}
 use Rattle.fab_match.specs.declared.bucket.Card.{Card}
 use Rattle.fab_match.specs.declared.bucket.Bucket.{Bucket}
 use Rattle.fab_match.specs.declared.chains.Chains.{Chains}
-use Rattle.fab_match.specs.Each.{Each, Lacks, others}
+use Rattle.fab_match.specs.Others.{others}
+use Rattle.fab_base.specs.Members.{Each, Lacks}
 use Rattle.fab_match.specs.Chains.{IsChain, IsLinked, next_of, prev_of}
 use Rattle.fab_match.specs.Bins.{bin}
 use Rattle.fab_match.specs.Bucket.{passes, held, listed, read, places, cards, is_within, IsFiled, Keeps, IsKept, StaysIn}
 use Rattle.fab_match.proofs.Leading.{In, Round-in}
 use Rattle.fab_match.proofs.Walking.{read-leads}
-use Rattle.fab_match.proofs.Lists.{Each-append, Each-filter, Each-both, Each-in, IsDistinct-push, IsDistinct-others, Lacks-others, In-filter, first_out}
+use Rattle.fab_match.proofs.Lists.{Each-filter, Each-in, IsDistinct-others, Lacks-others, In-filter, first_out}
+use Rattle.fab_base.proofs.Members.{Each-append, Each-both, IsDistinct-push}
 use Rattle.fab_match.proofs.Filing.{length-listed, listed-append, listed-same, held-same, find-filed, find-listed, listed-remove_first, Lacks-vacant, IsFiled-removed, IsFiled-added}
 
 length-read : (heads : ℕ) (next : ℕ → ℕ) (n node : ℕ) → length (read heads next n node) ≡ n

@@ -1,7 +1,8 @@
 -- What becomes of chains when a place joins one or leaves one.
 use Rattle.std.proofs.Common.{◌≡◌, ◌≢◌, ◌<◌, ◌≤◌, ◌+◌, ◌==◌, ℕ, Bool, true, false, ◌⊎◌, inl, inr, List, [], ◌∷◌, ◌++◌, refl, sym, ap, ◌∙◌, subst, arith}
 use Rattle.std.proofs.lemmas.Bool.{eqb-true, eqb-false}
-use Rattle.fab_match.specs.Each.{Lacks, others}
+use Rattle.fab_match.specs.Others.{others}
+use Rattle.fab_base.specs.Members.{Lacks}
 use Rattle.fab_match.specs.Chains.{Leads}
 
 module _ (heads len : ℕ) (next prev : ℕ → ℕ) where

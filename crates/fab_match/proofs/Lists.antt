@@ -1,24 +1,13 @@
 -- Lists whose members each have something, and the first of some.
-use Rattle.std.proofs.Common.{◌≡◌, ◌≢◌, ◌+◌, ◌==◌, ℕ, Bool, true, false, not, cond, ◌&&◌, List, [], ◌∷◌, ◌++◌, Some, length, refl, sym, ap, ◌∙◌, subst, inl, inr, arith}
+use Rattle.std.proofs.Common.{◌≡◌, ◌≢◌, ◌+◌, ◌==◌, ℕ, Bool, true, false, not, cond, ◌&&◌, List, [], ◌∷◌, Some, length, refl, sym, ap, ◌∙◌, subst, inl, inr, arith}
 use Rattle.std.specs.Prelude.{find, filter}
 use Rattle.std.proofs.lemmas.Bool.{eqb-false, eq-eqb, ne_eqb}
 use Rattle.fab_model.specs.Matching.{remove_first}
-use Rattle.fab_match.specs.Each.{Each, Lacks, IsDistinct, others}
+use Rattle.fab_match.specs.Others.{others}
+use Rattle.fab_base.specs.Members.{Each, Lacks, IsDistinct}
 use Rattle.fab_match.proofs.Leading.{In}
 
 module _ {X : Type 0} (P : X → Type 0) where
-  pub Each-append : (xs ys : List X) → Each P xs → Each P ys → Each P (xs ++ ys)
-  Each-append [] ys e f = f
-  Each-append (x ∷ xs) ys e f = (e.0, Each-append xs ys e.1 f)
-
-  pub Each-map : (Q : X → Type 0) → ((x : X) → P x → Q x) → (xs : List X) → Each P xs → Each Q xs
-  Each-map Q h [] e = tt
-  Each-map Q h (x ∷ xs) e = (h x e.0, Each-map Q h xs e.1)
-
-  pub Each-both : (Q R : X → Type 0) → ((x : X) → P x → Q x → R x) → (xs : List X) → Each P xs → Each Q xs → Each R xs
-  Each-both Q R h [] e f = tt
-  Each-both Q R h (x ∷ xs) e f = (h x e.0 f.0, Each-both Q R h xs e.1 f.1)
-
   module _ (test : X → Bool) where
     filter_step : (x : X) (xs : List X) (t : Bool) → test x ≡ t → P x → Each P (filter test xs) → Each P (filter test (x ∷ xs))
     filter_step x xs true t p e = rw t (p, e)
@@ -50,11 +39,6 @@ pub Each-in : (P : ℕ → Type 0) (x : ℕ) (xs : List ℕ) → Each P xs → I
 Each-in P x [] e i = absurd i
 Each-in P x (y ∷ xs) e (inl same) = subst P same e.0
 Each-in P x (y ∷ xs) e (inr i) = Each-in P x xs e.1 i
-
-pub IsDistinct-push : (xs : List ℕ) (x : ℕ) → IsDistinct xs → Lacks x xs → IsDistinct (xs ++ x ∷ [])
-IsDistinct-push [] x d l = (tt, tt)
-IsDistinct-push (y ∷ xs) x d l =
-    (Each-append (λ z. z ≢ y) xs (x ∷ []) d.0 ((λ same. l.0 (sym same)), tt), IsDistinct-push xs x d.1 l.1)
 
 module _ (x : ℕ) where
   distinct_step : (y : ℕ) (xs : List ℕ) (t : Bool) → (y == x) ≡ t → Lacks y xs → IsDistinct (others x xs) → IsDistinct (others x (y ∷ xs))

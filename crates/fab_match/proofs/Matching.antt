@@ -18,12 +18,13 @@ use Rattle.fab_model.proofs.Firsts.{remove_first_at, remove_first-none, list_any
 use Rattle.fab_match.specs.declared.bucket.Card.{Card}
 use Rattle.fab_match.specs.declared.bins.Filing.{Filing}
 use Rattle.fab_match.specs.declared.bins.Filing.TheVariants.{Exact, Open, Masked}
-use Rattle.fab_match.specs.Each.{Each}
+use Rattle.fab_base.specs.Members.{Each}
 use Rattle.fab_match.specs.Bins.{exact_bin, open_bin, masked_bin, filing_by, filing_of, bin_in, is_loose}
 use Rattle.fab_match.specs.Filed.{IsFiledByWant, IsFiledBySign, loose_in, loose_count}
 use Rattle.fab_match.specs.Numbers.{earlier, Rising}
 use Rattle.fab_match.specs.BinMatcher.{pairs}
-use Rattle.fab_match.proofs.Lists.{Each-append, Each-map, Each-both, Each-find, Each-remove_first, find-same}
+use Rattle.fab_match.proofs.Lists.{Each-find, Each-remove_first, find-same}
+use Rattle.fab_base.proofs.Members.{Each-append, Each-map, Each-both}
 
 -- a message that the receive may take stands where it looks
 abbrev pub Stands : ℕ → Sign → Filing → Type 0

@@ -5,7 +5,8 @@ use Rattle.std.proofs.lemmas.List.{length-set, get_or_default}
 use Rattle.std.proofs.Math.ListN.{get_or-append}
 use Rattle.std.proofs.Math.Seq.{get_or-append_seam}
 use Rattle.fab_match.specs.declared.chains.Link.{Link}
-use Rattle.fab_match.specs.Each.{Lacks, others}
+use Rattle.fab_match.specs.Others.{others}
+use Rattle.fab_base.specs.Members.{Lacks}
 use Rattle.fab_match.specs.Chains.{Leads, nowhere, next_of, prev_of}
 use Rattle.fab_match.proofs.Leading.{Joins, Passes, closes, last_within, last_apart, Leads-joined, Leads-elsewhere, Leads-passed, Leads-more}
 

@@ -4,7 +4,7 @@ use Rattle.std.specs.Prelude.{◌≡◌, ◌<◌, ◌≤◌, ◌-◌, ◌^◌, �
 use Rattle.fab_match.specs.Matcher.{HasDistinctIds}
 use Rattle.fab_match.specs.declared.bucket.Card.{Card}
 use Rattle.fab_match.specs.declared.bin_matcher.BinMatcher.TheInside.{Inside}
-use Rattle.fab_match.specs.Each.{Each}
+use Rattle.fab_base.specs.Members.{Each}
 use Rattle.fab_match.specs.Bucket.{cards, IsKept, IsReady}
 use Rattle.fab_match.specs.Numbers.{Rising}
 use Rattle.fab_match.specs.Filed.{IsFiledByWant, IsFiledBySign, loose_count}

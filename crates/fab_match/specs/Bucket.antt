@@ -12,7 +12,7 @@ use Rattle.slab.specs.Slab.{Slab, get, slab_len, HasRoomFor}
 use Rattle.fab_match.specs.declared.chains.Chains.{Chains}
 use Rattle.fab_match.specs.declared.bucket.Card.{Card}
 use Rattle.fab_match.specs.declared.bucket.Bucket.{Bucket}
-use Rattle.fab_match.specs.Each.{Each, IsDistinct}
+use Rattle.fab_base.specs.Members.{Each, IsDistinct}
 use Rattle.fab_match.specs.Chains.{IsChain, Covers, next_of}
 use Rattle.fab_match.specs.Bins.{bin}
 

@@ -1,7 +1,7 @@
 pub mod Signs
 pub mod Matcher
 pub mod ListMatcher
-pub mod Each
+pub mod Others
 pub mod Chains
 pub mod Bins
 pub mod Bucket

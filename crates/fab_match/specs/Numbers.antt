@@ -3,7 +3,7 @@
 --     Rising limit cards     the numbers rise from card to card, and are below the limit
 use Rattle.std.specs.Prelude.{◌<◌, ℕ, nat_lt, List, [], ◌∷◌, Option, Some, None, if◌then◌else◌}
 use Rattle.fab_match.specs.declared.bucket.Card.{Card}
-use Rattle.fab_match.specs.Each.{Each}
+use Rattle.fab_base.specs.Members.{Each}
 
 module _ {X : Type 0} where
   abbrev pub earlier : Option (Card X) → Option (Card X) → Option (Card X)

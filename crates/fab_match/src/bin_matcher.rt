@@ -4,7 +4,7 @@ ghost use Rattle.std.specs.Option.{option_map};
 ghost use Rattle.fab_base.specs.declared.items.Want.{Want};
 ghost use Rattle.fab_base.specs.declared.items.Sign.{Sign};
 ghost use Rattle.fab_match.specs.Signs.{fits};
-ghost use Rattle.fab_match.specs.Each.{Each};
+ghost use Rattle.fab_base.specs.Members.{Each};
 ghost use Rattle.fab_match.specs.Bucket.{cards, IsKept};
 ghost use Rattle.fab_match.specs.Numbers.{earlier, Rising};
 ghost use Rattle.fab_match.specs.Filed.{IsFiledByWant, IsFiledBySign, loose_in, loose_count};

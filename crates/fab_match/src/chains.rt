@@ -1,6 +1,7 @@
 //! Chains of places, each in the order in which its places joined.
 ghost use Rattle.std.specs.Prelude.{◌≡◌, ◌≢◌, ◌<◌, ◌≤◌, ◌++◌, ◌∷◌, ℕ, List, [], length, IfOk, OnOk};
-ghost use Rattle.fab_match.specs.Each.{Lacks, others};
+ghost use Rattle.fab_match.specs.Others.{others};
+ghost use Rattle.fab_base.specs.Members.{Lacks};
 ghost use Rattle.fab_match.specs.Chains.{IsChain, IsLinked, Covers};
 
 use fab_base::NoMemory;

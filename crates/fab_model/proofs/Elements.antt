@@ -1,13 +1,21 @@
 -- Bytes of numbers, the elements of an atomic operation, and the first numbers.
-use Rattle.std.proofs.Common.{List, Some, [], arith, inl, inr, length, length-append, refl, slice_get, suc, sym, zero, ℕ, ◌/◌, ◌∙◌, ◌∷◌, ◌≡◌}
+use Rattle.std.proofs.Common.{List, Some, [], arith, inl, inr, length, length-append, refl, slice_get, suc, sym, zero, ℕ, ◌/◌, ◌<◌, ◌^◌, ◌∙◌, ◌∷◌, ◌≡◌}
+use Rattle.std.proofs.Math.Nat.{pow-suc}
 use Rattle.fab_base.proofs.Lists.{get_push}
 use Rattle.fab_base.specs.declared.items.Atom.{Atom}
 use Rattle.fab_model.specs.Calls.{upto}
-use Rattle.fab_model.specs.Target.{bytes_of, elements}
+use Rattle.fab_model.specs.Target.{bytes_of, elements, number_of}
 
 pub length-bytes_of : (k n : ℕ) → length (bytes_of k n) ≡ k
 length-bytes_of zero n = refl
 length-bytes_of (suc k) n = let e = length-bytes_of k (n / 256) in omega (arith, e)
+
+pub number_of-bytes_of : (k n : ℕ) → n < 256 ^ k → number_of (bytes_of k n) ≡ n
+number_of-bytes_of zero n h = omega arith
+number_of-bytes_of (suc k) n h =
+    let power = pow-suc 256 k in
+    let rest : n / 256 < 256 ^ k = omega arith in
+    omega (arith, number_of-bytes_of k (n / 256) rest)
 
 pub elements-none : (left : ℕ) (a : Atom) (operand compares : List ℕ) → elements left a [] operand compares ≡ []
 unfolding elements

@@ -1,6 +1,4 @@
 -- How operations are let out, one after another: what a loop does.
---     going_out t o tx      the operation goes out: its item joins those accepted for t, and it is live
---     holding t held tx     these operations are held for t
 use Rattle.std.proofs.Common.{◌≡◌, ◌<◌, ◌+◌, ◌==◌, ℕ, Bool, true, false, ◌&&◌, ◌||◌, List, [], ◌∷◌, ◌++◌, length, get_or, set, set-set, refl, sym, ◌∙◌, ap, ap₂, append_assoc, append-nil, length-append, get_or-set_same}
 use Rattle.std.specs.Prelude.{slice_set}
 use Rattle.std.proofs.lemmas.List.Folds.{list_any-append}
@@ -11,16 +9,8 @@ use Rattle.fab_base.proofs.Bools.{or_true}
 use Rattle.fab_base.proofs.Numbers.{same_number as same_dest}
 use Rattle.fab_base.proofs.Lists.{set_same}
 use Rattle.fab_model.specs.State.{Transmitting, accepted_for, held_for}
+pub use Rattle.fab_model.specs.Sending.{going_out, holding}
 use Rattle.fab_model.specs.Sending.{is_busy, let_out, held_back, operation_at, operations_from, items_of, letting_out, going_on, accepting}
-
-abbrev pub going_out : ℕ → Held → Transmitting → Transmitting
-going_out t o tx = record tx {
-  accepted = slice_set tx.accepted t (accepted_for tx t ++ o.item ∷ []);
-  live = tx.live ++ operation_at t (length (accepted_for tx t)) o ∷ [];
-}
-
-abbrev pub holding : ℕ → List Held → Transmitting → Transmitting
-holding t held tx = record tx { held = slice_set tx.held t held }
 
 pub fields : (a a' : List (List Item)) (s : List ℕ) (l l' : List Operation) (h h' : List (List Held)) (n : ℕ) → a ≡ a' → l ≡ l' → h ≡ h'
     → (let tx : Transmitting = record { accepted = a; sent = s; live = l; held = h; ops = n } in tx) ≡ (let tx : Transmitting = record { accepted = a'; sent = s; live = l'; held = h'; ops = n } in tx)

@@ -30,3 +30,5 @@ pub mod Removing
 pub mod Answering
 pub mod Unchanged
 pub mod Elements
+pub mod Blanks
+pub mod Claims

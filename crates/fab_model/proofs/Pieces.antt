@@ -1,4 +1,5 @@
 -- Lines of words are read back from their text.
+--     lacks c bytes       c is none of the bytes
 --     plain word          each byte of it is above the blank
 --     readable words      a line of one word or more, all plain
 --     lines_back          the lines of such a text, and behind its last line feed a line of one empty word
@@ -12,11 +13,10 @@ use Rattle.fab_model.specs.Words.{Word, text_of, onto_first, pieces_at, lines_in
 
 -- ---- pieces
 
--- c is not a byte of it
-abbrev lacks : ℕ → List ℕ → Bool
+abbrev pub lacks : ℕ → List ℕ → Bool
 lacks c bytes = list_all (λ b. not (eqb b c)) bytes
 
-piece_before : (c : ℕ) (xs ys : List ℕ) → lacks c xs ≡ true → pieces_at c (xs ++ c ∷ ys) ≡ xs ∷ pieces_at c ys
+pub piece_before : (c : ℕ) (xs ys : List ℕ) → lacks c xs ≡ true → pieces_at c (xs ++ c ∷ ys) ≡ xs ∷ pieces_at c ys
 piece_before c [] ys none = rw (pieces_at, eq-eqb c c refl) refl
 piece_before c (x ∷ xs) ys none = let b = and_parts _ _ none in rw (pieces_at, differs (eqb x c) b.0) (ap (onto_first x) (piece_before c xs ys b.1))
 
@@ -33,7 +33,7 @@ abbrev pub readable : List Word → Bool
 readable [] = false
 readable (word ∷ words) = plain word && list_all plain words
 
-plain_lacks : (c : ℕ) (word : Word) → c ≤ 32 → plain word ≡ true → lacks c word ≡ true
+pub plain_lacks : (c : ℕ) (word : Word) → c ≤ 32 → plain word ≡ true → lacks c word ≡ true
 plain_lacks c [] low p = refl
 plain_lacks c (b ∷ word) low p =
     let parts = and_parts _ _ p in
@@ -49,7 +49,7 @@ words_back word (next ∷ words) p ps =
     piece_before 32 word (join_with_byte 32 (next ∷ words)) (plain_lacks 32 word (omega arith) p) ∙ ap (λ ws. word ∷ ws) (words_back next words parts.0 parts.1)
 
 -- and no line feed is among them
-line_lacks : (word : Word) (words : List Word) → plain word ≡ true → list_all plain words ≡ true → lacks 10 (join_with_byte 32 (word ∷ words)) ≡ true
+pub line_lacks : (word : Word) (words : List Word) → plain word ≡ true → list_all plain words ≡ true → lacks 10 (join_with_byte 32 (word ∷ words)) ≡ true
 line_lacks word [] p ps = plain_lacks 10 word (omega arith) p
 line_lacks word (next ∷ words) p ps =
     let parts = and_parts _ _ ps in

@@ -1,6 +1,8 @@
 -- A list without the first of those that pass a test.
-use Rattle.std.proofs.Common.{Bool, List, [], arith, false, length, refl, true, ◌<◌, ◌∷◌, ◌≡◌, ◌≤◌}
+use Rattle.std.proofs.Common.{Bool, List, Some, [], ap, arith, false, length, refl, true, ◌+◌, ◌<◌, ◌∷◌, ◌≡◌, ◌≤◌}
 use Rattle.std.specs.List.{list_any}
+use Rattle.std.specs.Prelude.{find}
+use Rattle.fab_base.specs.Many.{bit, many}
 use Rattle.fab_base.proofs.Lists.{any_after}
 use Rattle.fab_model.specs.Matching.{remove_first}
 
@@ -22,3 +24,23 @@ length-remove_first-le {X} test (x ∷ xs) = go (test x) (length-remove_first-le
 
 pub remove_here : {X : Type 0} (test : X → Bool) (x : X) (xs : List X) → test x ≡ true → remove_first test (x ∷ xs) ≡ xs
 remove_here test x xs passes = rw (passes, remove_first) refl
+
+-- ---- how many pass
+
+many_step : {X : Type 0} (test leaves : X → Bool) (x y : X) (xs : List X) (b : Bool) → leaves x ≡ b → find leaves (x ∷ xs) ≡ Some y → (find leaves xs ≡ Some y → many test xs ≡ bit (test y) + many test (remove_first leaves xs))
+    → many test (x ∷ xs) ≡ bit (test y) + many test (remove_first leaves (x ∷ xs))
+many_step test leaves x y xs true t f ih = let same : x ≡ y = (let e : Some x ≡ Some y = rw (t, find) at f in cc) in rw (t, remove_first) (ap (λ z. bit (test z) + many test xs) same)
+many_step test leaves x y xs false t f ih = let more = ih (rw (t, find) at f) in rw (t, remove_first) (omega (arith, more))
+
+-- what is removed counts no more
+pub many_removed : {X : Type 0} (test leaves : X → Bool) (xs : List X) (y : X) → find leaves xs ≡ Some y → many test xs ≡ bit (test y) + many test (remove_first leaves xs)
+many_removed test leaves [] y f = absurd (cc)
+many_removed test leaves (x ∷ xs) y f = many_step test leaves x y xs (leaves x) refl f (many_removed test leaves xs y)
+
+pub removed_less : {X : Type 0} (test leaves : X → Bool) (xs : List X) → many test (remove_first leaves xs) ≤ many test xs
+removed_less test leaves [] = omega arith
+removed_less test leaves (x ∷ xs) = go (leaves x) (removed_less test leaves xs)
+  where
+    go : (b : Bool) → many test (remove_first leaves xs) ≤ many test xs → many test (elim b [ true ↦ xs | false ↦ x ∷ remove_first leaves xs ]) ≤ bit (test x) + many test xs
+    go true le = omega arith
+    go false le = omega (arith, le)

@@ -1,6 +1,6 @@
 -- Bound scripts for the worked rows, of either version: default sizes, the whole offer.
 use Rattle.std.specs.Prelude.{Bool, ◌≡◌, ℕ, IsTrue, true, false, List, [], None, length}
-use Rattle.fab_base.specs.Offer.{is_offered, most_message}
+use Rattle.fab_base.specs.Offer.{is_offered, most_message, version_of}
 use Rattle.fab_base.specs.declared.caps.Api.{Api}
 use Rattle.fab_base.specs.declared.caps.Api.TheVariants.{One, Two}
 use Rattle.fab_base.specs.declared.caps.Info.{Info}
@@ -26,10 +26,6 @@ defaults api peers = record {
   inject = 4_096;
   message = most_message api;
 }
-
-abbrev pub version_of : Api → ℕ
-version_of One = 1
-version_of Two = 2
 
 -- the script of these peers' lines, with what is granted
 abbrev pub script_with : Info → Bool → List (List Line) → Bound

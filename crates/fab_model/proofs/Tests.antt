@@ -9,6 +9,7 @@ use Rattle.fab_base.specs.declared.faults.Busy.TheVariants.{CqFull, PostedFull}
 use Rattle.fab_base.specs.declared.operations.Receive.{Receive}
 use Rattle.fab_base.specs.declared.faults.Fault.{Fault}
 use Rattle.fab_base.specs.declared.faults.Fault.TheVariants.{Again, NotSupported, MsgSize, Invalid, NoEntry}
+use Rattle.fab_base.specs.Lines.{is_final as is_refused}
 use Rattle.fab_base.specs.declared.peers.LineResult.{LineResult}
 use Rattle.fab_base.specs.declared.peers.LineResult.TheVariants.{Refused}
 use Rattle.fab_base.specs.declared.peers.Step.{Step}
@@ -25,12 +26,6 @@ use Rattle.fab_model.specs.Peers.{Actor, Facts, after_call, all_below, call_line
 use Rattle.fab_model.specs.Views.{View, seen, stands}
 
 -- ---- tests
-
--- refused, and not to come again
-abbrev pub is_refused : LineResult → Bool
-is_refused (Refused (Again busy)) = false
-is_refused (Refused fault) = true
-is_refused outcome = false
 
 -- a call that is refused otherwise is done
 abbrev pub unless : Bool → List Bool → List Bool

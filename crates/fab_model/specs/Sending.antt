@@ -3,6 +3,7 @@
 --     transmit_fault s o, transmit s o      why the call is refused; the state after it is Ok
 --     do_sent s t      the oldest item for t that is not transmitted is transmitted
 --     do_answer s source head bytes      a reply is whole
+--     going_out t o tx, holding t held tx      the operation goes out for t; these operations are held for t
 use Rattle.std.specs.Prelude.{◌≡◌, ℕ, ◌+◌, ◌%◌, Bool, true, false, not, ◌&&◌, ◌||◌, ◌==◌, nat_lt, nat_le, List, [], ◌∷◌, ◌++◌, length, Option, Some, None, slice_set, slice_index, is_none, find, map, unwrap_or, cond}
 use Rattle.std.specs.List.{list_any}
 use Rattle.fab_base.specs.declared.limits.TheConstants.{INJECT_BYTES, MOST_OPERATIONS}
@@ -177,6 +178,20 @@ AreFenced tx = (t : ℕ) → let_out (is_busy tx t) (held_for tx t) ≡ []
 abbrev pub items_of : List Held → List Item
 items_of held = map (λ (o : Held). o.item) held
 
+-- all items for a peer, those held back behind those accepted
+abbrev pub items_for : Transmitting → ℕ → List Item
+items_for tx t = accepted_for tx t ++ items_of (held_for tx t)
+
+-- its item joins those accepted for t, and it is live
+abbrev pub going_out : ℕ → Held → Transmitting → Transmitting
+going_out t o tx = record tx {
+  accepted = slice_set tx.accepted t (accepted_for tx t ++ o.item ∷ []);
+  live = tx.live ++ operation_at t (length (accepted_for tx t)) o ∷ [];
+}
+
+abbrev pub holding : ℕ → List Held → Transmitting → Transmitting
+holding t held tx = record tx { held = slice_set tx.held t held }
+
 -- Of these operations for t, the items of those that go out join those accepted for t, and the operations are live; the others
 -- are held for t.
 unfoldable pub letting_out : ℕ → List Held → Transmitting → Transmitting
@@ -250,6 +265,10 @@ transmitting t tx = record {
   held = tx.held;
   ops = tx.ops;
 }
+
+-- the item that is next is transmitted; where its operation ends with that, those that wait for it go on
+abbrev pub transmitted : ℕ → Transmitting → Transmitting
+transmitted t tx = elim (ending t tx) [ None ↦ transmitting t tx | Some o ↦ going_on t (transmitting t tx) ]
 
 -- where an operation ends, those that wait for it go on
 unfoldable pub do_sent : State → ℕ → State

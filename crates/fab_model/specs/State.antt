@@ -5,7 +5,7 @@
 --     State          these, the address vector (fi_av(3)), the regions (fi_mr(3)) and the counters (fi_cntr(3))
 --     Receive, Arrival, Coming, Operation, Held, Written and Tally are types of fab_base
 --     slice_index xs t of numbers, slice_index_or xs t d of others: a list by peer at peer t
-use Rattle.std.specs.Prelude.{ℕ, ◌+◌, ◌-◌, min, Bool, true, false, not, ◌==◌, nat_lt, nat_le, List, [], ◌∷◌, ◌++◌, length, Option, Some, None, slice_index, slice_index_or, slice_set, count_by, sum_by}
+use Rattle.std.specs.Prelude.{ℕ, ◌+◌, ◌-◌, min, Bool, true, false, not, ◌==◌, nat_lt, nat_le, List, [], ◌∷◌, ◌++◌, length, map, Option, Some, None, slice_index, slice_index_or, slice_set, count_by, sum_by}
 use Rattle.std.specs.List.{list_any}
 use Rattle.fab_base.specs.declared.items.Item.{Item}
 use Rattle.fab_base.specs.declared.items.Access.{Access}
@@ -49,6 +49,15 @@ is_into call (Some Throw) = false
 is_into call (Some Request) = false
 is_into call (Some Answer) = false
 is_into call None = false
+
+-- the message that is coming is kept for a receive to come
+abbrev pub is_keep : Option Coming → Bool
+is_keep None = false
+is_keep (Some (Into receive place)) = false
+is_keep (Some Keep) = true
+is_keep (Some Throw) = false
+is_keep (Some Request) = false
+is_keep (Some Answer) = false
 
 -- an item of the receive made by this call has arrived and is not whole
 abbrev pub under_way : Receiving → ℕ → Bool
@@ -104,6 +113,10 @@ pub record Completions : Type 0 where
 -- the entries unread are at most as many as there may be
 abbrev pub fits : Completions → Bool
 fits cq = nat_le (length cq.written - cq.taken_out) cq.size
+
+-- the entries without the numbers of their calls
+abbrev pub entries_of : List Written → List Taken
+entries_of ws = map (λ (w : Written). w.entry) ws
 
 abbrev pub writing : Option ℕ → Taken → Completions → Completions
 writing call entry cq = record cq { written = cq.written ++ record { call = call; entry = entry } ∷ [] }

@@ -16,6 +16,7 @@ use Rattle.fab_base.specs.declared.items.Access.{Access}
 use Rattle.fab_base.specs.declared.items.ItemHead.{ItemHead}
 use Rattle.fab_base.specs.Elements.{element_size}
 use Rattle.fab_base.specs.Kinds.{is_base, is_read_only}
+use Rattle.fab_base.specs.Many.{bit}
 use Rattle.fab_model.specs.Matching.{change_first}
 use Rattle.fab_model.specs.State.{Region}
 
@@ -39,10 +40,6 @@ rank num x = if is_signed num then (x + span num / 2) % span num else x
 
 abbrev pub below : Num → ℕ → ℕ → Bool
 below num x y = nat_lt (rank num x) (rank num y)
-
-abbrev pub bit : Bool → ℕ
-bit true = 1
-bit false = 0
 
 unfoldable pub element : AtomicOp → Num → ℕ → ℕ → ℕ → ℕ
 element Min num t b c = if below num b t then b else t

@@ -1,5 +1,6 @@
 -- Lines of words, as a report has them.
 --     text_of lines      the bytes: words with a blank between two, each line ended by a line feed
+--     after_blanks words the words, each after a blank
 --     lines_in text      the lines of words again
 --     hex_or_dash bytes  bytes as a report prints them
 use Rattle.std.specs.Prelude.{ℕ, ◌+◌, ◌-◌, ◌*◌, ◌/◌, ◌%◌, true, false, ◌==◌, nat_lt, List, [], ◌∷◌, ◌++◌, fold, map, codes, cond}
@@ -14,6 +15,10 @@ line_of words = join_with_byte 32 words ++ 10 ∷ []
 abbrev pub text_of : List (List Word) → List ℕ
 text_of [] = []
 text_of (words ∷ lines) = line_of words ++ text_of lines
+
+abbrev pub after_blanks : List Word → List ℕ
+after_blanks [] = []
+after_blanks (word ∷ words) = 32 ∷ word ++ after_blanks words
 
 -- a byte at the front of the first piece
 abbrev pub onto_first : ℕ → List (List ℕ) → List (List ℕ)

@@ -5,24 +5,15 @@ use mathlib.Core.Logic.{dite}
 use native.Mathlib.Decide.{ℕ_discrete}
 use Rattle.fab_link.specs.declared.moves.Move.{Move}
 use Rattle.fab_link.specs.declared.moves.Move.TheVariants.{Post, Take}
-use Rattle.fab_link.specs.Merged.{IsStampedAbove, posts_to, takes_of}
+use Rattle.fab_link.specs.Merged.{posts_to, takes_of}
 use Rattle.fab_queue.specs.declared.lane.Sent.{Sent}
 use Rattle.std.specs.Prelude.{Some, IsSome}
 use Rattle.fab_base.proofs.Lists.{cond_more}
 use Rattle.fab_base.proofs.Numbers.{max_next as next_is}
 use Rattle.fab_base.proofs.Options.{there_is as is_there}
-use Rattle.fab_link.proofs.Merging.{stamped_take}
+use Rattle.fab_link.proofs.Merging.{stamped_take, greatest_more, stamped_post}
 use Rattle.fab_queue.specs.Ends.{Out, In, new_out, new_in, taken_one}
-use Rattle.fab_queue.specs.Ports.{Queued, no_lane, out_at, in_at, with_out, with_in, number, stamp, greatest, clock_of, IsTold}
-
-greatest_more : (g : ℕ) (ms : List Move) (m : Move) → greatest g (ms ++ m ∷ []) ≡ max (greatest g ms) (stamp m)
-greatest_more g [] m = refl
-greatest_more g (x ∷ xs) m = greatest_more (max g (stamp x)) xs m
-
-stamped_post : (g : ℕ) (ms : List Move) (d k : ℕ) → IsStampedAbove g ms → k ≡ greatest g ms + 1 → IsStampedAbove g (ms ++ Post d k ∷ [])
-stamped_post g [] d k s next = (next, tt)
-stamped_post g (Post e j ∷ xs) d k s next = (s.0, stamped_post j xs d k s.1 (next ∙ ap (λ (z : ℕ). greatest z xs + 1) (sym (next_is g j s.0))))
-stamped_post g (Take e j ∷ xs) d k s next = stamped_post (max g j) xs d k s next
+use Rattle.fab_queue.specs.Ports.{Queued, no_lane, out_at, in_at, with_out, with_in, number, clock_of, IsTold}
 
 posts_more : (d : ℕ) (ms : List Move) (m : Move) → posts_to d (ms ++ m ∷ []) ≡ posts_to d ms ++ posts_to d (m ∷ [])
 posts_more d [] m = refl

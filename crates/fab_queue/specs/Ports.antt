@@ -2,11 +2,10 @@
 --     Queued                its number, its ends by peer, and the order of what was posted and taken
 --     out_of, in_of         its ends in the words of all ports
 --     IsTold                the order tells what was posted and taken, and is stamped
-use Rattle.std.specs.Prelude.{◌≡◌, ℕ, ◌^◌, ◌<◌, max, List, [], ◌∷◌, length, map, None, slice_index_or, slice_set}
+use Rattle.std.specs.Prelude.{◌≡◌, ℕ, ◌^◌, ◌<◌, List, [], length, map, None, slice_index_or, slice_set}
 use Rattle.atomic_table.specs.Seated.{TableId}
 use Rattle.fab_link.specs.declared.moves.Move.{Move}
-use Rattle.fab_link.specs.declared.moves.Move.TheVariants.{Post, Take}
-use Rattle.fab_link.specs.Merged.{IsStamped, posts_to, takes_of}
+use Rattle.fab_link.specs.Merged.{IsStamped, posts_to, takes_of, greatest}
 use Rattle.fab_link.specs.Meaning.{Outgoing, Incoming}
 use Rattle.fab_queue.specs.declared.lane.Sent.{Sent}
 use Rattle.fab_queue.specs.Lanes.{frames_of}
@@ -76,22 +75,9 @@ lanes_of p = record { to = λ d. (out_at p d).lane; from = λ s. (in_at p s).lan
 abbrev pub number : Sent → ℕ
 number x = x.number
 
-abbrev pub stamp : Move → ℕ
-stamp (Post d k) = k
-stamp (Take s k) = k
-
--- the greatest of g and the numbers of these moves
-abbrev pub greatest : ℕ → List Move → ℕ
-greatest g [] = g
-greatest g (m ∷ moves) = greatest (max g (stamp m)) moves
-
 -- the greatest number of a frame that was posted or taken
 abbrev pub clock_of : Queued → ℕ
 clock_of p = greatest 0 p.moves
-
--- the greatest number that a frame may have
-abbrev pub most : ℕ
-most = 2 ^ 62
 
 pub record IsSound (p : Queued) : Type 0 where
   pub few : length p.outs < 2 ^ 32

@@ -4,7 +4,8 @@ ghost use Rattle.fab_base.specs.Counts.{Rose};
 ghost use Rattle.fab_link.specs.Frames.{frame, Continues};
 ghost use Rattle.fab_link.specs.declared.moves.Move.TheVariants.{Post};
 ghost use Rattle.fab_link.specs.Meaning.{Others, end_of, Noticed, Repays, GrewBy};
-ghost use Rattle.fab_queue.specs.Ports.{Lanes, number_of, peers_of, room_of, out_of, in_of, moves_of, lanes_of, PopFoundNone, clock_of, most};
+ghost use Rattle.fab_queue.specs.Ports.{Lanes, number_of, peers_of, room_of, out_of, in_of, moves_of, lanes_of, PopFoundNone, clock_of};
+ghost use Rattle.fab_link.specs.Merged.{most_stamp as most};
 
 use crate::lane::Sent;
 use crate::port::QueuePort;

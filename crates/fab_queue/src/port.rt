@@ -8,7 +8,8 @@ ghost use Rattle.fab_link.specs.Plain.{lent_frames};
 ghost use Rattle.fab_queue.specs.declared.lane.Sent.{Sent};
 ghost use Rattle.fab_queue.specs.Lanes.{Continues};
 ghost use Rattle.fab_queue.specs.Ends.{seen_full, Looked, taken_one};
-ghost use Rattle.fab_queue.specs.Ports.{Queued, out_at, in_at, with_out, with_in, in_of, clock_of, most};
+ghost use Rattle.fab_queue.specs.Ports.{Queued, out_at, in_at, with_out, with_in, in_of, clock_of};
+ghost use Rattle.fab_link.specs.Merged.{most_stamp as most};
 
 use crate::inlet::Inlet;
 use crate::lane::Sent;

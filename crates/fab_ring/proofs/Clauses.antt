@@ -22,14 +22,13 @@ use Rattle.fab_table.specs.declared.kinds.In.{In}
 use Rattle.fab_table.specs.declared.kinds.Part.{Part}
 use Rattle.fab_table.specs.declared.lane_table.PeerSeat.{PeerSeat}
 use Rattle.fab_table.specs.Views.{frame_of, frames_of, least, new_out, new_in, part_at, out_at, in_at, with_out, with_in, saw_full, saw_room, posted_one, saw_empty, saw_frame, taken_one}
-use Rattle.fab_table.specs.Rule.{greatest}
-use Rattle.fab_table.specs.Plays.{most}
+use Rattle.fab_link.specs.Merged.{greatest, most_stamp as most}
 use Rattle.fab_ring.specs.Tries.{raised, IsTried, IsSent, tried_out, sent_as}
 use Rattle.fab_ring.specs.Hands.{Comes}
 use Rattle.fab_ring.specs.declared.port.RingPort.{RingPort}
 use Rattle.fab_ring.specs.Ports.{outgoing, incoming, frame_in, one_more, slot_of, slots_of, part_of, number_of, moves_of, SamePort}
 use Rattle.fab_ring.specs.Looks.{Looked, SawAllTaken}
-use Rattle.fab_table.proofs.Orders.{greatest_more}
+use Rattle.fab_link.proofs.Merging.{greatest_more}
 use Rattle.fab_ring.proofs.Ends.{least_all}
 use Rattle.fab_ring.proofs.Trying.{one_up, raised_once}
 

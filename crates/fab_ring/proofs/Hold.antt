@@ -21,10 +21,11 @@ use Rattle.fab_table.specs.declared.kinds.Out.{Out}
 use Rattle.fab_table.specs.declared.kinds.In.{In}
 use Rattle.fab_table.specs.declared.kinds.Part.{Part}
 use Rattle.fab_table.specs.Views.{new_part, new_out, new_in, out_at, in_at, with_out, with_in, posted_one, saw_empty, saw_frame, taken_one, freed_one, has_slot, lane_of}
-use Rattle.fab_table.specs.Rule.{cell_of, greatest}
+use Rattle.fab_table.specs.Rule.{cell_of}
+use Rattle.fab_link.specs.Merged.{greatest}
 use Rattle.fab_table.specs.Plays.{oldest_of}
 use Rattle.fab_table.proofs.Rows.{each_set}
-use Rattle.fab_table.proofs.Orders.{greatest_more}
+use Rattle.fab_link.proofs.Merging.{greatest_more}
 use Rattle.fab_table.proofs.Seating.{same_all}
 use Rattle.fab_ring.specs.Hands.{shape, shapes, span, ring, slot_of, lent_of, held_of, held, slot_named, numbered, HasSlot, Fits}
 

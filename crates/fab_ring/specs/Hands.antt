@@ -20,7 +20,8 @@ use Rattle.fab_table.specs.declared.kinds.Slot.{Slot}
 use Rattle.fab_table.specs.declared.kinds.Slot.TheVariants.{Cell, Pool}
 use Rattle.fab_table.specs.declared.kinds.Part.{Part}
 use Rattle.fab_table.specs.Views.{frames_of, out_at, in_at}
-use Rattle.fab_table.specs.Rule.{Says, Fills, IsShort, greatest}
+use Rattle.fab_table.specs.Rule.{Says, Fills, IsShort}
+use Rattle.fab_link.specs.Merged.{greatest}
 use Rattle.fab_table.specs.Plays.{oldest_of}
 
 -- 0 for a cell, and one more than its size for a buffer

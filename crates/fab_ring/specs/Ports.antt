@@ -10,7 +10,7 @@ use Rattle.fab_table.specs.declared.kinds.Out.{Out}
 use Rattle.fab_table.specs.declared.kinds.In.{In}
 use Rattle.fab_table.specs.declared.kinds.Part.{Part}
 use Rattle.fab_table.specs.Views.{frames_of, least, part_at, out_at, in_at}
-use Rattle.fab_table.specs.Rule.{greatest}
+use Rattle.fab_link.specs.Merged.{greatest}
 use Rattle.fab_ring.specs.declared.port.RingPort.{RingPort}
 
 -- nothing was owed before the port was made, and a full pool is the count of its slots that was raised least

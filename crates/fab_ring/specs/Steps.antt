@@ -24,7 +24,8 @@ use Rattle.fab_table.specs.declared.kinds.Sent.{Sent}
 use Rattle.fab_table.specs.declared.kinds.Slot.{Slot}
 use Rattle.fab_table.specs.declared.kinds.Slot.TheVariants.{Cell, Pool}
 use Rattle.fab_table.specs.Views.{frames_of, out_at, in_at, with_part, with_out, with_in, posted_one, saw_empty, saw_frame, saw_full, saw_room, freed_one, taken_one}
-use Rattle.fab_table.specs.Plays.{Sat, most, new_in_view, new_out_view, oldest_cell, slot_home}
+use Rattle.fab_table.specs.Plays.{Sat, new_in_view, new_out_view, oldest_cell, slot_home}
+use Rattle.fab_link.specs.Merged.{most_stamp as most}
 use Rattle.fab_table.specs.Seats as seats
 use Rattle.fab_table.specs.Seats.{carried, view_of_seat, sat, named}
 use Rattle.fab_ring.specs.declared.port.RingPort.{RingPort}

@@ -10,7 +10,7 @@ ghost use Rattle.fab_base.specs.declared.limits.TheConstants.{INLINE_BYTES};
 ghost use Rattle.fab_table.specs.declared.kinds.Sent.{Sent};
 ghost use Rattle.fab_table.specs.Views.{frames_of, out_at, in_at, with_out, with_in, saw_full, saw_room, posted_one, saw_empty, saw_frame, freed_one, taken_one};
 ghost use Rattle.fab_table.specs.Rule.{Repays};
-ghost use Rattle.fab_table.specs.Plays.{most};
+ghost use Rattle.fab_link.specs.Merged.{most_stamp as most};
 ghost use Rattle.fab_ring.specs.Steps.{KeepsOpen, PortLaneFull, PortLooked, PortPoolFull, PortSent, PortTook, lane_out};
 ghost use Rattle.fab_ring.specs.Ports.{part_of, peers_of, room_of, pool_of, clock_of, in_of, SamePort};
 

@@ -7,7 +7,7 @@ ghost use Rattle.fab_link.specs.declared.moves.Move.TheVariants.{Post, Take};
 ghost use Rattle.fab_link.specs.Frames.{frame, Continues};
 ghost use Rattle.fab_link.specs.Meaning.{Others, end_of, Noticed, Repays, GrewBy, advanced};
 ghost use Rattle.fab_table.specs.Views.{out_at, in_at};
-ghost use Rattle.fab_table.specs.Plays.{most};
+ghost use Rattle.fab_link.specs.Merged.{most_stamp as most};
 ghost use Rattle.fab_ring.specs.Looks.{SawAllTaken};
 ghost use Rattle.fab_ring.specs.Ports.{part_of, number_of, peers_of, room_of, pool_of, out_of, in_of, moves_of, table_of, got_seen, tries, slots, clock_of, one_more};
 

@@ -4,7 +4,7 @@ use Rattle.std.specs.Prelude.{find, nat_lt, IfSome, IsTrue, IsSomeAnd, Result, O
 use Rattle.std.specs.Option.{option_map}
 use Rattle.std.proofs.lemmas.Bool.Decides.{nat_tests}
 use Rattle.std.proofs.lemmas.List.{length-drop, length-take-le, take-append-drop, drop-drop}
-use Rattle.fab_base.specs.Elements.{element_size, is_of_form}
+use Rattle.fab_base.specs.Elements.{element_size, is_of_form, operand_bytes}
 use Rattle.fab_base.specs.declared.faults.Fault.{Fault}
 use Rattle.fab_base.specs.declared.faults.Fault.TheVariants.{Range, NoKey}
 use Rattle.fab_base.specs.declared.items.Access.{Access}
@@ -22,7 +22,7 @@ use Rattle.fab_model.specs.State.{Region}
 use Rattle.fab_model.specs.Matching.{change_first}
 use Rattle.fab_model.specs.Target.{Performed, changed_range, elements, is_keyed, may_access, outcome_of, perform, performed_in, put_range, reach_of, refused_by}
 use Rattle.fab_base.specs.Kinds.{is_base}
-use Rattle.fab_link.specs.Frames.{IsSound, IsSoundAs, IsSoundAtomic, compare_bytes, operand_bytes}
+use Rattle.fab_link.specs.Frames.{IsSound, IsSoundAs, IsSoundAtomic, compare_bytes}
 use Rattle.fab_mr.specs.Regions.{reaches_past, region_at}
 use Rattle.fab_atomics.specs.Operands.{compare_len, operand_len}
 use Rattle.fab_rma.specs.Serving.{Serving, compared, is_request, outcome_at}

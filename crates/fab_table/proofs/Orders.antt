@@ -1,30 +1,20 @@
 -- The order of one peer's moves, as it grows.
-use Rattle.std.proofs.Common.{◌≡◌, ℕ, zero, suc, ◌+◌, ◌<◌, ◌≤◌, max, get_or, set, eqb, cond, List, [], ◌∷◌, ◌++◌, map, length, sym, refl, ap, ◌∙◌, subst, arith, length-set, eq-eqb, ne_eqb, append-nil}
+use Rattle.std.proofs.Common.{◌≡◌, ℕ, zero, suc, ◌+◌, ◌<◌, ◌≤◌, get_or, set, eqb, cond, List, [], ◌∷◌, ◌++◌, map, length, sym, refl, ap, ◌∙◌, subst, arith, length-set, eq-eqb, ne_eqb, append-nil}
 use mathlib.Core.List.{map-append}
 use Rattle.fab_base.proofs.Lists.{cond_more}
-use Rattle.fab_base.proofs.Numbers.{max_next as next_is}
 use Rattle.fab_link.specs.declared.moves.Move.{Move}
 use Rattle.fab_link.specs.declared.moves.Move.TheVariants.{Post, Take}
-use Rattle.fab_link.specs.Merged.{IsStampedAbove, posts_to, takes_of}
+use Rattle.fab_link.specs.Merged.{posts_to, takes_of, greatest}
 use Rattle.fab_table.specs.declared.kinds.Sent.{Sent}
 use Rattle.fab_table.specs.declared.kinds.Out.{Out}
 use Rattle.fab_table.specs.declared.kinds.In.{In}
 use Rattle.fab_table.specs.declared.kinds.Part.{Part}
 use Rattle.fab_table.specs.Views.{frame_of, frames_of, new_out, new_in, out_at, in_at, with_out, with_in, posted_one, taken_one}
-use Rattle.fab_table.specs.Rule.{Owes, Repays, number, number_of, greatest, Kept}
+use Rattle.fab_table.specs.Rule.{Owes, Repays, number, Kept}
 use Rattle.fab_link.specs.Owing.{IsOwed}
 use Rattle.fab_link.proofs.Owed.{repays, owed_still}
-use Rattle.fab_link.proofs.Merging.{stamped_take}
+use Rattle.fab_link.proofs.Merging.{stamped_take, stamped_post}
 use Rattle.fab_table.proofs.Rows.{each_set}
-
-pub greatest_more : (g : ℕ) (ms : List Move) (m : Move) → greatest g (ms ++ m ∷ []) ≡ max (greatest g ms) (number_of m)
-greatest_more g [] m = refl
-greatest_more g (x ∷ xs) m = greatest_more (max g (number_of x)) xs m
-
-stamped_post : (g : ℕ) (ms : List Move) (d k : ℕ) → IsStampedAbove g ms → k ≡ greatest g ms + 1 → IsStampedAbove g (ms ++ Post d k ∷ [])
-stamped_post g [] d k s next = (next, tt)
-stamped_post g (Post e j ∷ xs) d k s next = (s.0, stamped_post j xs d k s.1 (next ∙ ap (λ (z : ℕ). greatest z xs + 1) (sym (next_is g j s.0))))
-stamped_post g (Take e j ∷ xs) d k s next = stamped_post (max g j) xs d k s next
 
 pub posts_append : (d : ℕ) (ms ns : List Move) → posts_to d (ms ++ ns) ≡ posts_to d ms ++ posts_to d ns
 posts_append d [] ns = refl

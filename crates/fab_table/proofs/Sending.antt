@@ -24,8 +24,9 @@ use Rattle.fab_table.specs.declared.kinds.Out.{Out}
 use Rattle.fab_table.specs.declared.kinds.Part.{Part}
 use Rattle.fab_table.specs.declared.kinds.View.{View}
 use Rattle.fab_table.specs.Views.{frames_of, claimed_one, refused_one, left_one, pool_word, pool_home, part_at, out_at, in_at, saw_full, saw_room, posted_one, lane_of, put_word, got_word, still_word}
-use Rattle.fab_table.specs.Rule.{Repays, IsCell, CellAt, said_inline, said_pooled, Fills, IsBuf, greatest, Place, sent, claimed, free, PlaceOk, Homes, Lane, cell_of, LaneOk, Ruled}
-use Rattle.fab_table.specs.Plays.{claims, ClaimsAt, reserves_cell, ReservesAt, leaves, posts_pooled, claim_view, slot_home, most, Sat, out_lane, next_cell, new_out_view, post_view, SawGot, saw_got, posts}
+use Rattle.fab_table.specs.Rule.{Repays, IsCell, CellAt, said_inline, said_pooled, Fills, IsBuf, Place, sent, claimed, free, PlaceOk, Homes, Lane, cell_of, LaneOk, Ruled}
+use Rattle.fab_link.specs.Merged.{greatest, most_stamp as most}
+use Rattle.fab_table.specs.Plays.{claims, ClaimsAt, reserves_cell, ReservesAt, leaves, posts_pooled, claim_view, slot_home, Sat, out_lane, next_cell, new_out_view, post_view, SawGot, saw_got, posts}
 use Rattle.fab_table.proofs.Rows.{put, pair_once, pair_below, lane_below}
 use Rattle.fab_table.proofs.Cells.{stays, with_writing, with_post, reserves, joins, returns}
 use Rattle.fab_table.proofs.Orders.{kept_out, kept_post}

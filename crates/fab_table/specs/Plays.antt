@@ -8,7 +8,7 @@
 --     frees_pool       the open frame's slot goes back, free
 --     takes_frame      the open frame is finished, and its cell goes back
 --     learned          a look that tells what holds between the parts of one seat
-use Rattle.std.specs.Prelude.{◌≡◌, ◌≢◌, ℕ, ◌+◌, ◌*◌, ◌^◌, ◌<◌, ◌≤◌, ◌⊎◌, List, [], ◌∷◌, ◌++◌, length, true, Some, None}
+use Rattle.std.specs.Prelude.{◌≡◌, ◌≢◌, ℕ, ◌+◌, ◌*◌, ◌<◌, ◌≤◌, ◌⊎◌, List, [], ◌∷◌, ◌++◌, length, true, Some, None}
 use mathlib.Core.List.{IsPrefix}
 use Rattle.atomic_table.specs.Table.{Step, Me, rest}
 use Rattle.fab_link.specs.declared.moves.Move.TheVariants.{Post, Take}
@@ -22,11 +22,8 @@ use Rattle.fab_table.specs.declared.kinds.In.{In}
 use Rattle.fab_table.specs.declared.kinds.Part.{Part}
 use Rattle.fab_table.specs.declared.kinds.View.{View}
 use Rattle.fab_table.specs.Views.{frames_of, part_at, out_at, in_at, with_part, with_out, with_in, saw_full, saw_room, posted_one, saw_empty, saw_frame, taken_one, lane_of, put_word, got_word, still_word, pool_word, pool_home, claimed_one, refused_one, freed_one, left_one}
-use Rattle.fab_table.specs.Rule.{cell_of, said_inline, said_pooled, Says, Fills, IsBuf, IsShort, greatest, Kept}
-
--- the greatest number of a frame
-abbrev pub most : ℕ
-most = 2 ^ 62
+use Rattle.fab_table.specs.Rule.{cell_of, said_inline, said_pooled, Says, Fills, IsBuf, IsShort, Kept}
+use Rattle.fab_link.specs.Merged.{greatest, most_stamp as most}
 
 abbrev pub Sat : Type 0
 Sat = Me Slot View

@@ -4,14 +4,12 @@
 --     Place, PlaceOk          the slot rule: where one pool slot is
 --     Kept                    the merge rule and the rule of replies, for one peer
 --     Ruled                   all of them, with what each seat's view knows
-use Rattle.std.specs.Prelude.{◌≡◌, ℕ, ◌+◌, ◌*◌, ◌%◌, ◌<◌, ◌≤◌, ◌⊎◌, max, Bool, true, List, [], ◌∷◌, map, length, take, slice_index, Option, Some, None}
+use Rattle.std.specs.Prelude.{◌≡◌, ℕ, ◌+◌, ◌*◌, ◌%◌, ◌<◌, ◌≤◌, ◌⊎◌, Bool, true, List, [], map, length, take, slice_index, Option, Some, None}
 use Rattle.fab_base.specs.declared.limits.TheConstants.{FRAME_BYTES}
 use mathlib.Core.Option as maybe
 use mathlib.Core.Option.{some}
 use lib.ListN.{get_elem?}
 use Rattle.atomic_table.specs.Table.{State}
-use Rattle.fab_link.specs.declared.moves.Move.{Move}
-use Rattle.fab_link.specs.declared.moves.Move.TheVariants.{Post, Take}
 use Rattle.fab_link.specs.Frames.{frame, IsLane}
 use Rattle.fab_base.specs.declared.frames.FrameHead.{FrameHead}
 use Rattle.fab_link.specs.Owing.{begins_reply, IsOwed}
@@ -109,15 +107,6 @@ InOk l u = (u.taken ≡ take l.got l.posted) × (u.put_seen ≤ length l.posted)
 
 abbrev pub number : Sent → ℕ
 number x = x.number
-
-abbrev pub number_of : Move → ℕ
-number_of (Post d k) = k
-number_of (Take s k) = k
-
--- the greatest of g and the numbers of these moves
-abbrev pub greatest : ℕ → List Move → ℕ
-greatest g [] = g
-greatest g (m ∷ ms) = greatest (max g (number_of m)) ms
 
 -- so many replies more to an operation are owed to a peer, by what was posted to it and taken of it
 abbrev pub Owes : Out → In → ℕ → ℕ → Type 0

@@ -11,7 +11,8 @@ ghost use Rattle.fab_table.specs.declared.kinds.Sent.{Sent};
 ghost use Rattle.fab_table.specs.declared.kinds.Slot.{Slot};
 ghost use Rattle.fab_table.specs.declared.kinds.Slot.TheVariants.{Cell, Pool};
 ghost use Rattle.fab_table.specs.Views.{frames_of, but_first, only_first, both, left_one};
-ghost use Rattle.fab_table.specs.Rule.{said_inline, said_pooled, Says, Fills, IsBuf, Owes, Repays, greatest};
+ghost use Rattle.fab_table.specs.Rule.{said_inline, said_pooled, Says, Fills, IsBuf, Owes, Repays};
+ghost use Rattle.fab_link.specs.Merged.{greatest};
 ghost use Rattle.fab_table.specs.Plays.{ClaimsAt, FreesAt, ReservesAt, SawGot, SawPut, learned, next_cell, oldest_cell, slot_home, post_view, take_view, new_out_view};
 ghost use Rattle.fab_table.specs.Seats.{IsOf, IsSame, IsAt, carried, view_of_seat, sat, part_of, out_of, in_of};
 

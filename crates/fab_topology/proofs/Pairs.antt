@@ -1,5 +1,5 @@
 -- Each message of a round has one receiver, which hears its sender in this round, and in no other.
-use Rattle.std.proofs.Common.{◌≡◌, ℕ, ◌+◌, ◌-◌, ◌<◌, ◌≤◌, inl, inr, Bool, true, false, not, ◌&&◌, refl, sym, ap, ◌∙◌, subst, arith}
+use Rattle.std.proofs.Common.{◌≡◌, ℕ, ◌+◌, ◌-◌, ◌<◌, ◌≤◌, inl, inr, Bool, true, not, ◌&&◌, refl, sym, ap, ◌∙◌, subst, arith}
 use Rattle.std.specs.Prelude.{nat_lt}
 use Rattle.std.proofs.lemmas.Bool.{and_parts, ltb-true, ltb-false, lt-ltb, le-ltb}
 use Rattle.fab_topology.specs.declared.kinds.Topology.TheVariants.{Mesh, Dissemination, Star, Tree}
@@ -7,14 +7,11 @@ use Rattle.fab_topology.specs.Rounds.{ahead, behind, distance, is_reached, round
 use Rattle.fab_topology.specs.Laws.{EachIsHeard, EachIsOnce, EachIsTold, Tiles}
 use Rattle.fab_topology.proofs.Steps.{IsAhead, ahead_below, ahead_is, behind_below, behind_is, further, nearer, same_end, same_start, same_steps}
 use Rattle.fab_topology.proofs.Tiles.{apart, each_tiles, one_round, short}
-
-not-false : (b : Bool) → not b ≡ true → b ≡ false
-not-false true is = absurd (cc (is))
-not-false false is = refl
+use Rattle.fab_base.proofs.Bools.{not_true}
 
 pub reached : (d w v : ℕ) → is_reached d w v ≡ true → (d ≤ v) × (v - d < w)
 reached d w v is = let both = and_parts (not (nat_lt v d)) (nat_lt (v - d) w) is in
-    (ltb-false v d (not-false (nat_lt v d) both.0), ltb-true (v - d) w both.1)
+    (ltb-false v d (not_true (nat_lt v d) both.0), ltb-true (v - d) w both.1)
 
 pub reaches : (d w v : ℕ) → d ≤ v → v - d < w → is_reached d w v ≡ true
 reaches d w v far near = ap (λ (b : Bool). not b && nat_lt (v - d) w) (le-ltb v d far) ∙ lt-ltb (v - d) w near

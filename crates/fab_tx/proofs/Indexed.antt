@@ -14,8 +14,10 @@ use Rattle.fab_model.specs.Matching.{remove_first}
 use Rattle.fab_model.proofs.Removing.{remove_here}
 use Rattle.fab_tx.specs.declared.awaiting.Numbered.{Numbered}
 use Rattle.fab_tx.specs.declared.stored.Live.{Live}
-use Rattle.fab_tx.specs.Awaiting.{Each, Lacks, IsDistinct, In, IsIndexed, IsNumbered, StillIndexed, answers_in, expects_by, first_in, is_answered_at, answers_one, keys_of, numbers_of}
-use Rattle.fab_tx.proofs.Keys.{distinct_push, Each-append, Each-left, Each-right, Each-map}
+use Rattle.fab_tx.specs.Awaiting.{In, IsIndexed, IsNumbered, StillIndexed, answers_in, expects_by, first_in, is_answered_at, answers_one, keys_of, numbers_of}
+use Rattle.fab_base.specs.Members.{Each, Lacks, IsDistinct}
+use Rattle.fab_tx.proofs.Keys.{Each-left, Each-right}
+use Rattle.fab_base.proofs.Members.{Each-append, Each-map, IsDistinct-push}
 use Rattle.fab_tx.proofs.Ops.{clash, find_past, remove_past, find_none, remove_none, find_here}
 
 -- ---- a search
@@ -299,7 +301,7 @@ module _ {S : Type 0} (index index' : HashMap ℕ ℕ S) (e : Numbered) (rest : 
   moves fresh up = record {
     first = is.first ++ e ∷ [];
     are = is.are ∙ sym (append_assoc is.first (e ∷ []) rest);
-    distinct = subst IsDistinct (sym (map-append (λ (e : Numbered). e.number) is.first (e ∷ []))) (distinct_push (numbers_of is.first) e.number is.distinct (lacks_of e.number is.first (new is.first is.leads)));
+    distinct = subst IsDistinct (sym (map-append (λ (e : Numbered). e.number) is.first (e ∷ []))) (IsDistinct-push (numbers_of is.first) e.number is.distinct (lacks_of e.number is.first (new is.first is.leads)));
     leads = Each-append (λ (x : Numbered). led_to nat_eq index' x.number ≡ Some x.key) is.first (e ∷ []) (kept is.first is.leads (new is.first is.leads)) (up.1, tt);
     all = λ n k g. by n k (nat_eq e.number n) refl (sym (up.0 n) ∙ g);
   }

@@ -1,12 +1,11 @@
 -- The operations that await a reply of one peer: which of them a reply answers, and how they are stored.
---     Each P xs, Lacks x xs, IsDistinct xs     of lists
 --     answers_head reply head     a reply answers an operation with this head
 --     is_answered_at s reply k    it answers the operation under the key
 --     Awaited                     the value: numbers and keys of those that await, in their order, and how many there may be
 --     keys_of es                  their keys
 --     IsNumbered s e              the operation under the key has the number
 --     IsIndexed                   how they are stored: first those to which the index leads, behind them those of the queue
-use Rattle.std.specs.Prelude.{◌≡◌, ◌≢◌, ℕ, ◌≤◌, ◌⊎◌, Bool, false, ◌&&◌, ◌==◌, nat_eq, cond, List, [], ◌∷◌, ◌++◌, map, Option, Some, None}
+use Rattle.std.specs.Prelude.{◌≡◌, ℕ, ◌≤◌, ◌⊎◌, Bool, false, ◌&&◌, ◌==◌, nat_eq, cond, List, [], ◌∷◌, ◌++◌, map, Option, Some, None}
 use Rattle.std.specs.Option.{option_map}
 use Rattle.std.specs.HashMap.{HashMap, get as led_to}
 use Rattle.slab.specs.Slab.{Slab, get}
@@ -17,19 +16,7 @@ use Rattle.fab_base.specs.declared.peers.Level.{Level}
 use Rattle.fab_model.specs.Sending.{expects}
 use Rattle.fab_tx.specs.declared.awaiting.Numbered.{Numbered}
 use Rattle.fab_tx.specs.declared.stored.Live.{Live}
-
--- ---- lists
-
-abbrev pub Each : {X : Type 0} → (X → Type 0) → List X → Type 0
-Each P [] = Unit {0}
-Each P (x ∷ xs) = P x × Each P xs
-
-abbrev pub Lacks : ℕ → List ℕ → Type 0
-Lacks x xs = Each (λ y. y ≢ x) xs
-
-abbrev pub IsDistinct : List ℕ → Type 0
-IsDistinct [] = Unit {0}
-IsDistinct (x ∷ xs) = Lacks x xs × IsDistinct xs
+use Rattle.fab_base.specs.Members.{Each, IsDistinct}
 
 -- ---- replies
 

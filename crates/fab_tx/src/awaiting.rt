@@ -3,7 +3,8 @@ ghost use Rattle.std.specs.Prelude.{◌≡◌, ◌<◌, ◌≤◌, ◌∷◌, �
 ghost use Rattle.std.specs.HashMap.{get, IsUnchanged, Updates};
 ghost use Rattle.std.specs.VecDeque.{deque_capacity};
 ghost use Rattle.fab_model.specs.Matching.{remove_first};
-ghost use Rattle.fab_tx.specs.Awaiting.{AwaitsNone, Each, IsNumbered, StillIndexed, first_in, answers_one, keys_of};
+ghost use Rattle.fab_tx.specs.Awaiting.{AwaitsNone, IsNumbered, StillIndexed, first_in, answers_one, keys_of};
+ghost use Rattle.fab_base.specs.Members.{Each};
 ghost use Rattle.fab_tx.specs.Stored.{is_answered_at};
 
 use crate::stored::{Live, is_answered_at};

@@ -7,7 +7,8 @@ use Rattle.fab_table.specs.declared.kinds.Slot.{Slot}
 use Rattle.fab_table.specs.declared.kinds.Slot.TheVariants.{Cell}
 use Rattle.fab_table.specs.declared.kinds.View.{View}
 use Rattle.fab_table.specs.Views.{frames_of, part_at, out_at, in_at}
-use Rattle.fab_table.specs.Rule.{Repays, said_inline, greatest}
+use Rattle.fab_table.specs.Rule.{Repays, said_inline}
+use Rattle.fab_link.specs.Merged.{greatest}
 use Rattle.fab_table.specs.Plays.{Sat, post_view, next_cell}
 use Rattle.fab_table.specs.Seats.{carried, view_of_seat, written}
 use Rattle.fab_ring.specs.Tries.{sent_as}

@@ -10,7 +10,8 @@ use Rattle.fab_table.specs.declared.kinds.In.{In}
 use Rattle.fab_table.specs.declared.kinds.Part.{Part}
 use Rattle.fab_table.specs.declared.kinds.View.{View}
 use Rattle.fab_table.specs.Views.{frames_of, part_at, out_at, in_at, with_out}
-use Rattle.fab_table.specs.Rule.{Repays, said_pooled, greatest}
+use Rattle.fab_table.specs.Rule.{Repays, said_pooled}
+use Rattle.fab_link.specs.Merged.{greatest}
 use Rattle.fab_table.specs.Plays.{Sat, new_out_view, post_view, next_cell, slot_home}
 use Rattle.fab_table.specs.Seats.{carried, view_of_seat, sat, named, written}
 use Rattle.fab_ring.specs.Tries.{IsTried, IsMissed, tried_out, sent_as}

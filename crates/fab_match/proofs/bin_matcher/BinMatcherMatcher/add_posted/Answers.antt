@@ -3,12 +3,12 @@ use Rattle.std.proofs.lemmas.List.{map-append, length-map}
 use Rattle.fab_match.specs.Matcher.{Store, has_id, HasDistinctIds}
 use Rattle.fab_match.proofs.Pairs.{HasDistinctIds-push}
 use Rattle.fab_match.specs.declared.bucket.Card.{Card}
-use Rattle.fab_match.specs.Each.{Each}
+use Rattle.fab_base.specs.Members.{Each}
 use Rattle.fab_match.specs.Bucket.{cards}
 use Rattle.fab_match.specs.Numbers.{Rising}
 use Rattle.fab_match.specs.Filed.{IsFiledByWant, loose_count}
 use Rattle.fab_match.specs.BinMatcher.{pairs}
-use Rattle.fab_match.proofs.Lists.{Each-append}
+use Rattle.fab_base.proofs.Members.{Each-append}
 use Rattle.fab_match.proofs.Keeping.{length-cards}
 use Rattle.fab_match.proofs.Matching.{Rising-push, loose-push, loose_in-le, loose_count-le}
 use Rattle.fab_match.proofs.bin_matcher.BinMatcherMatcher.add_posted.Goals as goal

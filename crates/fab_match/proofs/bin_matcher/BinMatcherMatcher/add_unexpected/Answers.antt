@@ -3,11 +3,11 @@ use Rattle.std.proofs.lemmas.List.{map-append}
 use Rattle.fab_match.specs.Matcher.{Store, has_id, HasDistinctIds}
 use Rattle.fab_match.proofs.Pairs.{HasDistinctIds-push}
 use Rattle.fab_match.specs.declared.bucket.Card.{Card}
-use Rattle.fab_match.specs.Each.{Each}
+use Rattle.fab_base.specs.Members.{Each}
 use Rattle.fab_match.specs.Bucket.{cards}
 use Rattle.fab_match.specs.Filed.{IsFiledBySign}
 use Rattle.fab_match.specs.BinMatcher.{pairs}
-use Rattle.fab_match.proofs.Lists.{Each-append}
+use Rattle.fab_base.proofs.Members.{Each-append}
 use Rattle.fab_match.specs.Bins.{exact_bin, open_bin}
 use Rattle.fab_match.proofs.bin_matcher.BinMatcherMatcher.add_unexpected.Goals as goal
 

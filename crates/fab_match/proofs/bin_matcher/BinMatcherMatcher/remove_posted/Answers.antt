@@ -7,7 +7,7 @@ use Rattle.fab_model.proofs.Firsts.{remove_first-none as unchanged}
 use Rattle.fab_model.proofs.Removing.{length-remove_first-le}
 use Rattle.fab_match.proofs.Pairs.{has_id-without}
 use Rattle.fab_match.specs.declared.bucket.Card.{Card}
-use Rattle.fab_match.specs.Each.{Each}
+use Rattle.fab_base.specs.Members.{Each}
 use Rattle.fab_match.specs.Bucket.{cards}
 use Rattle.fab_match.specs.Numbers.{Rising}
 use Rattle.fab_match.specs.Filed.{IsFiledByWant}

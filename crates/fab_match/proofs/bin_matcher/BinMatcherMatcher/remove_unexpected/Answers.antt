@@ -4,7 +4,7 @@ use Rattle.fab_base.proofs.Lists.{list_any-find}
 use Rattle.fab_match.specs.Matcher.{Store, has_id, without, HasDistinctIds}
 use Rattle.fab_model.proofs.Firsts.{remove_first-none as unchanged}
 use Rattle.fab_match.proofs.Pairs.{has_id-without}
-use Rattle.fab_match.specs.Each.{Each}
+use Rattle.fab_base.specs.Members.{Each}
 use Rattle.fab_match.specs.Bucket.{cards}
 use Rattle.fab_match.specs.Filed.{IsFiledBySign}
 use Rattle.fab_match.specs.BinMatcher.{pairs}

@@ -1,5 +1,5 @@
 use Rattle.std.proofs.Common.{ℕ, List, ◌<◌, length, arith}
-use Rattle.fab_match.specs.Each.{Lacks}
+use Rattle.fab_base.specs.Members.{Lacks}
 use Rattle.fab_match.specs.Chains.{IsChain}
 use Rattle.fab_match.proofs.Writes.{last_in, Chain-joined, Chain-elsewhere}
 use Rattle.fab_match.proofs.chains.Chains.push.Goals as goal

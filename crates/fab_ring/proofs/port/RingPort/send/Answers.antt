@@ -12,8 +12,8 @@ use Rattle.fab_table.specs.declared.kinds.Out.{Out}
 use Rattle.fab_table.specs.declared.kinds.Part.{Part}
 use Rattle.fab_table.specs.declared.kinds.View.{View}
 use Rattle.fab_table.specs.Views.{frames_of, new_out, part_at, out_at, with_part, with_out, posted_one, saw_room, saw_full, lane_of}
-use Rattle.fab_table.specs.Rule.{greatest}
-use Rattle.fab_table.specs.Plays.{Sat, most, new_out_view, next_cell}
+use Rattle.fab_link.specs.Merged.{greatest, most_stamp as most}
+use Rattle.fab_table.specs.Plays.{Sat, new_out_view, next_cell}
 use Rattle.fab_ring.specs.Tries.{IsTried, IsSent, tried_out, sent_as}
 use Rattle.fab_ring.specs.Hands.{shapes, Fits, Sees, Told, Ends, Comes}
 use Rattle.fab_ring.proofs.Hold.{fits_saw, fits_post, put_len}

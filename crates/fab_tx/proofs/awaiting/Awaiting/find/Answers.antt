@@ -1,5 +1,6 @@
 use Rattle.std.proofs.Common.{find, sym, ap, subst, ◌∙◌}
-use Rattle.fab_tx.specs.Awaiting.{Awaited, Each, IsNumbered, is_answered_at, keys_of}
+use Rattle.fab_tx.specs.Awaiting.{Awaited, IsNumbered, is_answered_at, keys_of}
+use Rattle.fab_base.specs.Members.{Each}
 use Rattle.fab_tx.proofs.Indexed.{led_found, nowhere, behind_found}
 use Rattle.fab_tx.proofs.awaiting.Awaiting.find.Goals as goal
 

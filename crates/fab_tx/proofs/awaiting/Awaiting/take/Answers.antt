@@ -1,6 +1,7 @@
 use Rattle.std.proofs.Common.{find, sym, ap, subst, ◌∙◌}
 use Rattle.fab_model.specs.Matching.{remove_first}
-use Rattle.fab_tx.specs.Awaiting.{Awaited, Each, IsNumbered, answers_one, is_answered_at, keys_of}
+use Rattle.fab_tx.specs.Awaiting.{Awaited, IsNumbered, answers_one, is_answered_at, keys_of}
+use Rattle.fab_base.specs.Members.{Each}
 use Rattle.fab_tx.proofs.Indexed.{led_found, led_leaves, nowhere, behind_found, behind_leaves}
 use Rattle.fab_tx.proofs.awaiting.Awaiting.take.Goals as goal
 

@@ -2,8 +2,8 @@
 --     Each P xs        P holds of each
 --     Lacks x xs       no member is x
 --     IsDistinct xs    no two members are the same
---     others x xs      the members that are not x
-use Rattle.std.specs.Prelude.{◌≢◌, ◌==◌, ℕ, not, List, [], ◌∷◌, filter}
+--     only b x         the list of x alone, or of nothing
+use Rattle.std.specs.Prelude.{◌≢◌, ℕ, Bool, true, false, List, [], ◌∷◌}
 
 abbrev pub Each : {X : Type 0} → (X → Type 0) → List X → Type 0
 Each P [] = Unit {0}
@@ -16,5 +16,6 @@ abbrev pub IsDistinct : List ℕ → Type 0
 IsDistinct [] = Unit {0}
 IsDistinct (x ∷ xs) = Lacks x xs × IsDistinct xs
 
-abbrev pub others : ℕ → List ℕ → List ℕ
-others x xs = filter (λ y. not (y == x)) xs
+abbrev pub only : {X : Type 0} → Bool → X → List X
+only true x = x ∷ []
+only false x = []
