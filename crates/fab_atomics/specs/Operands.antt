@@ -5,24 +5,15 @@
 --     number_at num bytes at      the element that stands at this offset, as a number
 --     element_at num bytes i      element i of the bytes, as a number
 use Rattle.std.specs.Prelude.{ℕ, ◌*◌, List, take, drop, if◌then◌else◌}
-use Rattle.fab_base.specs.declared.items.Atom.{Atom}
 use Rattle.fab_base.specs.declared.items.AtomicOp.{AtomicOp}
-use Rattle.fab_base.specs.declared.items.AtomicOp.TheVariants.{AtomicRead}
-use Rattle.fab_base.specs.declared.items.Form.{Form}
 use Rattle.fab_base.specs.declared.items.Form.TheVariants.{Compare}
 use Rattle.fab_base.specs.declared.items.Num.{Num}
 use Rattle.fab_base.specs.Elements.{element_size, is_of_form}
 use Rattle.fab_model.specs.Target.{number_of}
-
-abbrev pub operand_len : AtomicOp → ℕ → ℕ
-operand_len AtomicRead n = 0
-operand_len _ n = n
+pub use Rattle.fab_base.specs.Elements.{operand_bytes as operand_len, atom}
 
 abbrev pub compare_len : AtomicOp → ℕ → ℕ
 compare_len op n = if is_of_form op Compare then n else 0
-
-abbrev pub atom : AtomicOp → Num → Form → Atom
-atom op num form = record { op = op; num = num; form = form }
 
 abbrev pub number_at : Num → List ℕ → ℕ → ℕ
 number_at num bytes at = number_of (take (element_size num) (drop at bytes))

@@ -8,7 +8,7 @@
 --     given_back n cq          the buffer that this unread entry gives back
 --     success_of, error_of     what a read of the oldest unread entry answers, if any is
 --     IsKept                   what is stored is what is unread
-use Rattle.std.specs.Prelude.{◌≡◌, ℕ, ◌+◌, ◌-◌, ◌≤◌, Bool, nat_le, List, [], length, map, drop, slice_get, Option, Some, None, Result, Ok, Err}
+use Rattle.std.specs.Prelude.{◌≡◌, ℕ, ◌+◌, ◌-◌, ◌≤◌, Bool, nat_le, List, [], length, drop, slice_get, Option, Some, None, Result, Ok, Err}
 use Rattle.fab_base.specs.declared.entries.Entry.{Entry}
 use Rattle.fab_base.specs.declared.entries.Entry.TheVariants.{Released}
 use Rattle.fab_base.specs.declared.entries.ErrEntry.{ErrEntry}
@@ -19,6 +19,7 @@ use Rattle.fab_base.specs.declared.faults.Fault.TheVariants.{NoEntry, Avail}
 use Rattle.fab_base.specs.declared.operations.Written.{Written}
 use Rattle.fab_model.specs.State.{Completions}
 use Rattle.fab_model.specs.Peers.{unread}
+pub use Rattle.fab_model.specs.State.{entries_of}
 
 abbrev pub nothing_written : ℕ → Completions
 nothing_written size = record { written = []; taken_out = 0; size = size }
@@ -56,10 +57,6 @@ success_of (Some w) = elim w.entry [ Success entry ↦ Ok entry | Failure _ ↦ 
 abbrev pub error_of : Option Written → Result ErrEntry Fault
 error_of None = Err NoEntry
 error_of (Some w) = elim w.entry [ Success _ ↦ Err NoEntry | Failure entry ↦ Ok entry ]
-
--- the entries without the numbers of their calls
-abbrev pub entries_of : List Written → List Taken
-entries_of ws = map (λ w. w.entry) ws
 
 pub record IsKept (entries : List Taken) (capacity limit : ℕ) (cq : Completions) : Type 0 where
   pub unread : entries ≡ drop cq.taken_out (entries_of cq.written)

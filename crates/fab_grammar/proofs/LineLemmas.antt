@@ -10,7 +10,7 @@ use Rattle.fab_grammar.specs.Atomics.{atomic_of, fetch_of, compare_of}
 use Rattle.fab_grammar.specs.Sends.{send_of, tsend_of, inject_of, tinject_of, mrecv_of, write_of, winject_of}
 use Rattle.fab_words.specs.Words.{read_number, read_source, read_up_to}
 use Rattle.fab_grammar.specs.Lines.{a_trecv, trecv_of, wait_of, recv_of, look_of, take_of, number_line, remove_of, insert_of, read_of, reg_of, put_of, count_of, reach_of}
-use Rattle.fab_grammar.specs.Settings.{size_of, caps_setting, selective_setting, payload_setting, peer_of}
+use Rattle.fab_grammar.specs.Settings.{size_of, caps_setting, selective_setting, payload_setting}
 
 pub trecv_of_other : (most : ℕ) (args : List (List ℕ)) → length args ≢ 5 → trecv_of most args ≡ Err Words
 unfolding trecv_of
@@ -168,11 +168,6 @@ pub payload_other : (args : List (List ℕ)) → length args ≢ 2 → payload_s
 unfolding payload_setting
 payload_other (a ∷ b ∷ []) h = absurd (h (omega arith))
 payload_other _ h = refl
-
-pub peer_of_other : (args : List (List ℕ)) → length args ≢ 1 → peer_of args ≡ Err Words
-unfolding peer_of
-peer_of_other (a ∷ []) h = absurd (h (omega arith))
-peer_of_other _ h = refl
 
 -- what is wrong with the words is wrong with the line
 pub trecv_fault : (most : ℕ) (ctx source tag ignore len : List ℕ) (fault : Misread) → (read_number ctx & read_source source & read_number tag & read_number ignore & read_up_to most len) ≡ Err fault → trecv_of most (ctx ∷ source ∷ tag ∷ ignore ∷ len ∷ []) ≡ Err fault

@@ -2,7 +2,7 @@
 --     value_of num word        the element that a word says, in two's complement where it is negative
 --     read_operand op num values      the elements, little-endian, or how many are read where the operation takes none
 --     atomic_of, fetch_of, compare_of      the lines
-use Rattle.std.specs.Prelude.{ℕ, zero, suc, ◌+◌, ◌-◌, ◌/◌, ◌%◌, Bool, true, false, ◌&&◌, ◌==◌, nat_le, if◌then◌else◌, List, [], ◌∷◌, ◌++◌, drop, codes, bytes_eq, find, Option, Some, None, Result, Ok, Err, ok_or}
+use Rattle.std.specs.Prelude.{ℕ, ◌+◌, ◌-◌, Bool, true, false, ◌&&◌, ◌==◌, nat_le, if◌then◌else◌, List, [], ◌∷◌, ◌++◌, drop, codes, bytes_eq, find, Option, Some, None, Result, Ok, Err, ok_or}
 use Rattle.std.specs.List.{slice_split}
 use Rattle.fab_base.specs.Elements.{element_size}
 use Rattle.fab_base.specs.declared.items.AtomicOp.{AtomicOp}
@@ -20,6 +20,7 @@ use Rattle.fab_words.specs.Misreads.{◌&◌, map_ok}
 use Rattle.fab_grammar.specs.Options.{allowing, read_options}
 use Rattle.fab_grammar.specs.Sends.{read_remote}
 use Rattle.fab_words.specs.Words.{begins_with, numeral_of, read_up_to}
+use Rattle.fab_model.specs.Target.{bytes_of as le_bytes}
 
 abbrev pub atom_name : AtomicOp → List ℕ
 atom_name atom.Min = codes "FI_MIN"
@@ -110,11 +111,6 @@ plain_value num (Some n) = if nat_le n (greatest num) then Some n else None
 
 unfoldable pub value_of : Num → List ℕ → Option ℕ
 value_of num word = if begins_with (codes "-") word && is_signed num then minus_value num (numeral_of 10 20 (drop 1 word)) else plain_value num (numeral_of 10 20 word)
-
--- so many bytes of a number, the lowest first
-abbrev pub le_bytes : ℕ → ℕ → List ℕ
-le_bytes zero n = []
-le_bytes (suc k) n = n % 256 ∷ le_bytes k (n / 256)
 
 unfoldable pub element : Num → ℕ → List ℕ
 element num n = le_bytes (element_size num) n

@@ -23,6 +23,7 @@ use Rattle.fab_grammar.specs.declared.verbs.Verb.TheVariants as verb
 use Rattle.fab_grammar.specs.Capabilities.{caps_of}
 use Rattle.fab_words.specs.Misreads.{map_ok, ◌&◌}
 use Rattle.fab_words.specs.Words.{read_number, read_text}
+pub use Rattle.fab_grammar.specs.Lines.{number_line as peer_of}
 
 -- a number from the least to the greatest
 abbrev pub between : Limits → Result ℕ Misread → Result ℕ Misread
@@ -67,11 +68,6 @@ setting_of api verb.Caps args = caps_setting args
 setting_of api verb.Selective args = selective_setting args
 setting_of api verb.Payload args = payload_setting args
 setting_of api verb args = wish_of api verb args
-
--- `peer K`
-unfoldable pub peer_of : List (List ℕ) → Result ℕ Misread
-peer_of (number ∷ []) = read_number number
-peer_of _ = Err Words
 
 abbrev pub no_settings : Settings
 no_settings = record { caps = None; peers = None; lane = None; pool = None; tx = None; rx = None; cq = None; is_selective = false }

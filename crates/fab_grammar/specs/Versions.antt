@@ -7,10 +7,7 @@ use Rattle.std.specs.Prelude.{ℕ, if◌then◌else◌, List, [], ◌∷◌, cod
 use Rattle.fab_base.specs.declared.limits.TheConstants.{SCRIPT_BYTES_ONE, SCRIPT_BYTES_TWO}
 use Rattle.fab_base.specs.declared.caps.Api.{Api}
 use Rattle.fab_base.specs.declared.caps.Api.TheVariants.{One, Two}
-
-abbrev pub version_of : Api → ℕ
-version_of One = 1
-version_of Two = 2
+pub use Rattle.fab_base.specs.Offer.{version_of}
 
 unfoldable pub version_named : List ℕ → Option Api
 version_named word = if bytes_eq word (codes "1") then Some One else if bytes_eq word (codes "2") then Some Two else None

@@ -2,7 +2,8 @@
 ghost use Rattle.std.specs.Prelude.{◌≡◌, ◌≤◌, ◌++◌, IfOk};
 ghost use Rattle.fab_base.specs.Elements.{element_size};
 ghost use Rattle.fab_words.specs.Misreads.{map_ok};
-ghost use Rattle.fab_grammar.specs.Atomics.{atom_name, atom_named, num_name, num_named, greatest, least, is_signed, negated, minus_value, plain_value, value_of, le_bytes, element, read_elements, read_elements_count, read_values, read_operand, read_request, for_atomic, atomic_of, fetch_of, compare_of};
+ghost use Rattle.fab_grammar.specs.Atomics.{atom_name, atom_named, num_name, num_named, greatest, least, is_signed, negated, minus_value, plain_value, value_of, element, read_elements, read_elements_count, read_values, read_operand, read_request, for_atomic, atomic_of, fetch_of, compare_of};
+ghost use Rattle.fab_model.specs.Target.{bytes_of as le_bytes};
 
 use crate::options::{Allowed, read_options};
 use crate::sends::read_remote;

@@ -211,7 +211,7 @@ fn read_wish(api: Api, verb: Verb, args: &mut Words) -> Read<Setting>
 }
 
 /// `peer K`.
-#[tactic(auto, using(crate::proofs::LineLemmas::peer_of_other), unfolding(crate::specs::Settings::peer_of))]
+#[tactic(auto, using(crate::proofs::LineLemmas::number_line_other), unfolding(crate::specs::Lines::number_line))]
 pub fn read_peer(args: &mut Words) -> Read<u64>
     ensures { result ≡ peer_of args.old }
 {

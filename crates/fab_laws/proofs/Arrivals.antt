@@ -13,9 +13,10 @@ use Rattle.fab_model.specs.Matching.{takes}
 use Rattle.fab_laws.specs.Members.{Never}
 use Rattle.fab_laws.specs.Matched.{tells_message}
 use Rattle.fab_laws.proofs.Lists.{Each, never}
-use Rattle.fab_laws.proofs.Counts.{many, one}
+use Rattle.fab_base.specs.Many.{bit as one, many}
 use Rattle.fab_laws.proofs.receiving.Acts.{Plain}
-use Rattle.fab_laws.proofs.Words.{Waiting, by_cases, entries_in, is_late, looks, not_both, of_source, stands, waiting}
+use Rattle.fab_laws.proofs.Words.{Waiting, by_cases, is_late, looks, not_both, of_source, stands, waiting}
+use Rattle.fab_model.specs.State.{entries_of as entries_in}
 use Rattle.fab_laws.proofs.Calls.{one_more_entry}
 
 -- ---- entries

@@ -15,17 +15,18 @@ use Rattle.fab_base.specs.declared.operations.Written.{Written}
 use Rattle.fab_model.specs.Complete.{entry_of, filling}
 use Rattle.fab_model.specs.Matching.{takes}
 use Rattle.fab_model.specs.Receiving.{goes, joining_posted, without_first}
-use Rattle.fab_model.specs.State.{Receiving, coming_from}
+use Rattle.fab_model.specs.State.{Receiving, coming_from, entries_of as entries_in, is_keep}
 use Rattle.fab_model.proofs.Parts.{get_or-set, some_same}
 use Rattle.fab_laws.specs.Members.{In}
 use Rattle.fab_laws.proofs.Lists.{found_in, in_end, last_get, length_more}
-use Rattle.fab_laws.proofs.Counts.{many, many_removed, one, removed_less}
+use Rattle.fab_model.proofs.Removing.{many_removed, removed_less}
+use Rattle.fab_base.specs.Many.{bit as one, many}
 use Rattle.fab_laws.proofs.receiving.Acts.{entries_for, entry_for, given}
 use Rattle.fab_laws.proofs.completion.Steps.{one_most as few}
 use Rattle.fab_laws.proofs.receiving.Pasting.{get_front as front_get}
 use Rattle.fab_laws.specs.InTurn.{IsChosen, told}
 use Rattle.fab_laws.proofs.TurnLists.{dropped_end, first_left, none_left, none_stays, one_kept, other_leaves, own_leaves, told_got, told_receive}
-use Rattle.fab_laws.proofs.Words.{Due, Level, Odd, Ours, Phase, Rest, Turns, Waiting, by_cases, entries_in, is_keep, is_late, is_one, looks, newest, not_both, of_source, ones, phase_same, set_here, set_there, stands, waiting, whole_ones}
+use Rattle.fab_laws.proofs.Words.{Due, Level, Odd, Ours, Phase, Rest, Turns, Waiting, by_cases, is_late, is_one, looks, newest, not_both, of_source, ones, phase_same, set_here, set_there, stands, waiting, whole_ones}
 
 -- ---- lists
 
@@ -46,6 +47,9 @@ given_late r a rx e = ap (λ (o : Option (List ℕ)). let x : Receiving = elim o
 pub entries_whole : (r : Receive) (a : Arrival) (bytes : List ℕ) → a.bytes ≡ Some bytes → entries_for r 0 a ≡ entry_for r 0 a.source a.head bytes ∷ []
 entries_whole r a bytes e = ap (λ (o : Option (List ℕ)). let ws : List Written = elim o [ None ↦ [] | Some b ↦ entry_for r 0 a.source a.head b ∷ [] ] in ws) e
 
+pub many_whole : (p : ℕ) (want : Want) (W : List Item) → length (whole_ones p want W) ≡ length (ones p want W)
+many_whole p want W = length-map (ones p want W) stands
+
 pub entries_late : (r : Receive) (a : Arrival) → a.bytes ≡ None → entries_for r 0 a ≡ []
 entries_late r a e = ap (λ (o : Option (List ℕ)). let ws : List Written = elim o [ None ↦ [] | Some b ↦ entry_for r 0 a.source a.head b ∷ [] ] in ws) e
 
@@ -61,9 +65,6 @@ module _ (p : ℕ) (want : Want) (mine : Receive → Bool) (counts : Taken → B
 
   more_other : mine r ≡ false → filter mine (reverse (r ∷ asked)) ≡ rs
   more_other m = ap (filter mine) (newest asked r) ∙ one_kept mine (reverse asked) r false m ∙ append-nil rs
-
-  many_whole : length (whole_ones p want W) ≡ length os
-  many_whole = length-map os stands
 
   -- ---- no message waits for it
 
@@ -91,18 +92,18 @@ module _ (p : ℕ) (want : Want) (mine : Receive → Bool) (counts : Taken → B
 
         rest : Rest p want mine W rs rx → (length os ≤ length rs) × Rest p want mine W (rs ++ r ∷ []) (joining_posted r rx)
         rest z =
-            let le : length os ≤ length rs = (let l = none_left (length rs) (whole_ones p want W) (sym z.waits ∙ none_waits) in let k = many_whole in omega (arith, l, k)) in
-            (le, record { posted = posts (length os) le z.posted; waits = none_waits ∙ sym (dropped_all (length (rs ++ r ∷ [])) (whole_ones p want W) (let k = many_whole in let l = long in omega (arith, le, k, l))) })
+            let le : length os ≤ length rs = (let l = none_left (length rs) (whole_ones p want W) (sym z.waits ∙ none_waits) in let k = many_whole p want W in omega (arith, l, k)) in
+            (le, record { posted = posts (length os) le z.posted; waits = none_waits ∙ sym (dropped_all (length (rs ++ r ∷ [])) (whole_ones p want W) (let k = many_whole p want W in let l = long in omega (arith, le, k, l))) })
 
         due : (x : Item) → Due p want mine W rs x rx → (length os < length rs) × Due p want mine W (rs ++ r ∷ []) x (joining_posted r rx)
         due x z =
             let all : List Waiting = whole_ones p want W ++ (x.head, None) ∷ [] in
             let many_all : length (whole_ones p want W ++ (x.head, None) ∷ []) ≡ length (whole_ones p want W) + 1 = length_more (whole_ones p want W) (x.head, None) in
-            let le : length os < length rs = (let l = none_left (length rs) (whole_ones p want W ++ (x.head, None) ∷ []) (sym z.waits ∙ none_waits) in let k = many_whole in omega (arith, l, k, many_all)) in (
+            let le : length os < length rs = (let l = none_left (length rs) (whole_ones p want W ++ (x.head, None) ∷ []) (sym z.waits ∙ none_waits) in let k = many_whole p want W in omega (arith, l, k, many_all)) in (
               le,
               record {
                 posted = posts (suc (length os)) (omega (arith, le)) z.posted;
-                waits = none_waits ∙ sym (dropped_all (length (rs ++ r ∷ [])) (whole_ones p want W ++ (x.head, None) ∷ []) (let k = many_whole in let l = long in omega (arith, le, k, l, many_all)));
+                waits = none_waits ∙ sym (dropped_all (length (rs ++ r ∷ [])) (whole_ones p want W ++ (x.head, None) ∷ []) (let k = many_whole p want W in let l = long in omega (arith, le, k, l, many_all)));
                 into = λ q e. z.into q (sym (front_get rs (r ∷ []) (length os) le) ∙ e);
                 keep = λ e. z.keep (sym (front_get rs (r ∷ []) (length os) le) ∙ e);
               },
@@ -216,7 +217,7 @@ module _ (p : ℕ) (want : Want) (mine : Receive → Bool) (counts : Taken → B
           let f = first_left (length rs) (whole_ones p want W ++ (x.head, None) ∷ []) (looks a) (waiting want mid.unexpected) (sym z.waits ∙ waits_first) in
           let within = slice_get_within (whole_ones p want W ++ (x.head, None) ∷ []) (length rs) (looks a) f.0 in
           let many_all = length_more (whole_ones p want W) (x.head, None) in
-          let count = many_whole in
+          let count = many_whole p want W in
           elim (cases_eq (length rs) (length os)) [
             | inl same ↦ (
                 let last : looks a ≡ (x.head, None) = some_same (looks a) (x.head, None) (sym f.0 ∙ ap (slice_get (whole_ones p want W ++ (x.head, None) ∷ [])) (same ∙ sym count) ∙ last_get (whole_ones p want W) (x.head, None)) in

@@ -13,16 +13,17 @@ use Rattle.fab_base.specs.declared.operations.Receive.{Receive}
 use Rattle.fab_base.specs.declared.operations.Written.{Written}
 use Rattle.fab_model.specs.Arrivals.{is_wanted, keeping, newcomer, taker}
 use Rattle.fab_model.specs.Matching.{matches, takes}
-use Rattle.fab_model.specs.State.{Receiving, coming_from}
+use Rattle.fab_model.specs.State.{Receiving, coming_from, entries_of as entries_in}
 use Rattle.fab_model.proofs.Parts.{get_or-set}
 use Rattle.fab_model.proofs.Unchanged.{single_seated as seated_single}
 use Rattle.fab_laws.specs.Members.{In, Never}
 use Rattle.fab_laws.proofs.Lists.{Each, found_in, in_removed, never}
-use Rattle.fab_laws.proofs.Counts.{many_append, one}
+use Rattle.fab_base.proofs.Counts.{many_append}
+use Rattle.fab_base.specs.Many.{bit as one}
 use Rattle.fab_laws.proofs.receiving.Acts.{Plain, entry_for, is_into, pass, seat, wait, whole}
 use Rattle.fab_laws.specs.InTurn.{IsChosen}
 use Rattle.fab_laws.proofs.TurnLists.{one_kept, other_leaves, into_same}
-use Rattle.fab_laws.proofs.Words.{Same, Turns, by_cases, entries_in, is_late, looks, of_source, phase_same, set_there}
+use Rattle.fab_laws.proofs.Words.{Same, Turns, by_cases, is_late, looks, of_source, phase_same, set_there}
 use Rattle.fab_laws.proofs.Calls.{one_more_entry}
 use Rattle.fab_laws.proofs.Arrivals.{late_elsewhere, plain_entries, waiting_elsewhere}
 

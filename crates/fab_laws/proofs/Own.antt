@@ -1,7 +1,7 @@
 -- An item of the source that arrives, or becomes whole, keeps the turns.
-use Rattle.std.proofs.Common.{◌≡◌, ◌≢◌, ◌≤◌, ◌<◌, ◌+◌, ◌-◌, ℕ, zero, suc, Bool, true, false, not, ◌&&◌, List, [], ◌∷◌, ◌++◌, length, map, drop, get_or, set, slice_get, reverse, Option, Some, None, inl, inr, refl, sym, ◌∙◌, ap, subst, arith, append-nil}
+use Rattle.std.proofs.Common.{◌≡◌, ◌≢◌, ◌≤◌, ◌<◌, ◌+◌, ℕ, zero, suc, Bool, true, false, not, ◌&&◌, List, [], ◌∷◌, ◌++◌, length, map, drop, get_or, set, slice_get, reverse, Option, Some, None, inl, inr, refl, sym, ◌∙◌, ap, subst, arith, append-nil}
 use Rattle.std.specs.Prelude.{cond, filter, slice_index, ◌==◌}
-use Rattle.std.proofs.lemmas.List.{length-map, length-set, map-append, drop_all as dropped_all}
+use Rattle.std.proofs.lemmas.List.{length-set, map-append, drop_all as dropped_all}
 use Rattle.std.proofs.lemmas.Option.{slice_get_within}
 use Rattle.fab_base.specs.declared.entries.Taken.{Taken}
 use Rattle.fab_base.specs.declared.items.Item.{Item}
@@ -16,17 +16,18 @@ use Rattle.fab_model.specs.Arrivals.{completed, is_wanted, keeping, newcomer, se
 use Rattle.fab_model.specs.Complete.{entry_of}
 use Rattle.fab_model.specs.Matching.{matches, remove_first, takes}
 use Rattle.fab_base.specs.Kinds.{is_message}
-use Rattle.fab_model.specs.State.{Receiving, coming_from, raise}
+use Rattle.fab_model.specs.State.{Receiving, coming_from, raise, entries_of as entries_in, is_keep}
 use Rattle.fab_model.proofs.Parts.{get_or-set, some_same}
 use Rattle.fab_model.proofs.Unchanged.{single_seated as seated_single}
 use Rattle.fab_laws.specs.Members.{In}
 use Rattle.fab_laws.proofs.Lists.{Each, found_in, in_removed, length_more, raise_here}
-use Rattle.fab_laws.proofs.Counts.{many, many_append, one}
+use Rattle.fab_base.proofs.Counts.{many_append}
+use Rattle.fab_base.specs.Many.{bit as one, many}
 use Rattle.fab_laws.proofs.receiving.Acts.{Plain, entry_for, is_into, pass, seat, wait, whole}
 use Rattle.fab_laws.specs.InTurn.{IsChosen, told}
 use Rattle.fab_laws.proofs.TurnLists.{dropped_end, first_left, none_left, none_stays, one_kept, other_leaves, own_leaves, told_came, told_item, into_same}
-use Rattle.fab_laws.proofs.Words.{Due, Level, Odd, Ours, Phase, Rest, Turns, by_cases, entries_in, is_keep, is_late, is_of_message, is_one, looks, not_both, ones, set_here, stands, waiting, whole_ones}
-use Rattle.fab_laws.proofs.Calls.{one_more_entry}
+use Rattle.fab_laws.proofs.Words.{Due, Level, Odd, Ours, Phase, Rest, Turns, by_cases, is_late, is_of_message, is_one, looks, not_both, ones, set_here, stands, waiting, whole_ones}
+use Rattle.fab_laws.proofs.Calls.{one_more_entry, many_whole}
 use Rattle.fab_laws.proofs.Arrivals.{joined, joined_drop, joined_last, joined_whole, late_joined, plain_entries, waiting_joined}
 
 -- ---- lists
@@ -46,9 +47,6 @@ module _ (p : ℕ) (want : Want) (mine : Receive → Bool) (counts : Taken → B
 
   abbrev os : List Item
   os = ones p want W
-
-  many_whole : length (whole_ones p want W) ≡ length os
-  many_whole = length-map os stands
 
   -- ---- it arrives
 
@@ -103,10 +101,10 @@ module _ (p : ℕ) (want : Want) (mine : Receive → Bool) (counts : Taken → B
               let first : filter mine rx.posted ≡ r ∷ filter mine (remove_first (is_wanted p item.head) rx.posted) = own_leaves mine (is_wanted p item.head) rx.posted r (same_test is) found in
               let f = first_left (length os) rs r (filter mine (remove_first (is_wanted p item.head) rx.posted)) (sym flat.2.posted ∙ first) in
               let lt : length os < length rs = slice_get_within rs (length os) r f.0 in
-              let none_waits : waiting want rx.unexpected ≡ [] = flat.2.waits ∙ dropped_all (length rs) (whole_ones p want W) (let k = many_whole in omega (arith, k, lt)) in
+              let none_waits : waiting want rx.unexpected ≡ [] = flat.2.waits ∙ dropped_all (length rs) (whole_ones p want W) (let k = many_whole p want W in omega (arith, k, lt)) in
               Ours item pending is none_late (record {
                 posted = ap (filter mine) seats ∙ sym f.1;
-                waits = none_waits ∙ sym (dropped_all (length rs) (whole_ones p want W ++ (item.head, None) ∷ []) (let k = many_whole in let l = length_more (whole_ones p want W) (item.head, None) in omega (arith, k, lt, l)));
+                waits = none_waits ∙ sym (dropped_all (length rs) (whole_ones p want W ++ (item.head, None) ∷ []) (let k = many_whole p want W in let l = length_more (whole_ones p want W) (item.head, None) in omega (arith, k, lt, l)));
                 into = λ q e. (let s : r ≡ q = some_same r q (sym f.0 ∙ e) in now ∙ ap (λ n. Some (Into r n)) its.1 ∙ ap (λ (y : Receive). Some (Into y 0)) s);
                 keep = λ e. absurd (let s : Some r ≡ None = sym f.0 ∙ e in cc (s));
               })
@@ -170,7 +168,7 @@ module _ (p : ℕ) (want : Want) (mine : Receive → Bool) (counts : Taken → B
           ours is =
               let empty : filter mine rx.posted ≡ [] = none_stays mine (is_wanted p item.head) rx.posted (same_test is) none in
               let le : length rs ≤ length os = none_left (length os) rs (sym flat.2.posted ∙ empty) in
-              let k = many_whole in
+              let k = many_whole p want W in
               Ours item pending is (late_more false (late_not is)) (record {
                 posted = empty ∙ sym (dropped_all (suc (length os)) rs (omega (arith, le)));
                 waits = wait_more true is ∙ ap (λ xs. xs ++ (item.head, None) ∷ []) flat.2.waits ∙ sym (dropped_end (length rs) (whole_ones p want W) (item.head, None) (omega (arith, le, k)));
@@ -290,7 +288,7 @@ module _ (p : ℕ) (want : Want) (mine : Receive → Bool) (counts : Taken → B
             let m : mine r ≡ true = ap mine (sym same) ∙ kept_passes mine (reverse asked) (length os) q at in
             let here : slice_get rs (length os) ≡ Some r = at ∙ ap (λ (y : Receive). Some y) same in
             let lt : length os < length rs = slice_get_within rs (length os) q at in
-            let c = many_whole in
+            let c = many_whole p want W in
             let none_waits : waiting want rx.unexpected ≡ [] = z.waits ∙ dropped_all (length rs) (whole_ones p want W ++ (item.head, None) ∷ []) (let l = length_more (whole_ones p want W) (item.head, None) in omega (arith, c, l, lt)) in
             made (whole p rx) (ws ++ entry_for r 0 p item.head item.bytes ∷ []) refl refl refl refl
             (filled true m ∙ sym (told_came p rs r item os here) ∙ ap (told p rs) (sym (more_ones is)))

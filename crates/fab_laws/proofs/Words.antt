@@ -12,27 +12,16 @@ use Rattle.fab_base.specs.declared.items.ItemHead.{ItemHead}
 use Rattle.fab_base.specs.declared.items.Want.{Want}
 use Rattle.fab_base.specs.declared.operations.Arrival.{Arrival}
 use Rattle.fab_base.specs.declared.operations.Coming.{Coming}
-use Rattle.fab_base.specs.declared.operations.Coming.TheVariants.{Into, Keep, Throw, Request, Answer}
+use Rattle.fab_base.specs.declared.operations.Coming.TheVariants.{Into, Keep}
 use Rattle.fab_base.specs.declared.operations.Receive.{Receive}
 use Rattle.fab_base.specs.declared.operations.Written.{Written}
 use Rattle.fab_model.specs.Matching.{matches, source_fits, tag_fits, takes}
 use Rattle.fab_base.specs.Kinds.{is_message, is_tagged}
-use Rattle.fab_model.specs.State.{Receiving, coming_from}
+use Rattle.fab_model.specs.State.{Receiving, coming_from, entries_of as entries_in, is_keep}
 use Rattle.fab_laws.specs.Members.{In, Never}
 use Rattle.fab_laws.proofs.Lists.{never}
-use Rattle.fab_laws.proofs.Counts.{many, one}
+use Rattle.fab_base.specs.Many.{bit as one, many}
 use Rattle.fab_laws.specs.InTurn.{told}
-
-abbrev pub entries_in : List Written → List Taken
-entries_in ws = map (λ (w : Written). w.entry) ws
-
-abbrev pub is_keep : Option Coming → Bool
-is_keep None = false
-is_keep (Some (Into r place)) = false
-is_keep (Some Keep) = true
-is_keep (Some Throw) = false
-is_keep (Some Request) = false
-is_keep (Some Answer) = false
 
 abbrev pub Waiting : Type 0
 Waiting = ItemHead × Option (List ℕ)

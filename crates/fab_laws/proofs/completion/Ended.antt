@@ -11,10 +11,11 @@ use Rattle.fab_base.proofs.Bools.{not_true}
 use Rattle.fab_model.specs.State.{State, is_into, under_way}
 use Rattle.fab_model.specs.Complete.{is_made_by}
 use Rattle.fab_laws.specs.Completed.{has_ended, is_among, made_by, receive_stands, send_stands}
-use Rattle.fab_laws.proofs.Counts.{many, many_le, none_counted}
+use Rattle.fab_laws.proofs.Counts.{none_counted}
+use Rattle.fab_base.proofs.Counts.{many_le, none_counts}
+use Rattle.fab_base.specs.Many.{many}
 use Rattle.fab_laws.proofs.fences.Counted.{held_by, many_in, sending}
 use Rattle.fab_laws.proofs.completion.Places.{into_single}
-use Rattle.fab_laws.proofs.completion.Home.{none_counts}
 
 module _ (c : ℕ) where
   abbrev pub left : State → ℕ

@@ -22,11 +22,12 @@ use Rattle.fab_model.proofs.Grows.{raised as raise_keeps}
 use Rattle.fab_laws.specs.Members.{In}
 use Rattle.fab_laws.specs.Programs.{Deed, Makes, Peer}
 use Rattle.fab_laws.specs.Completed.{held}
-use Rattle.fab_laws.specs.Matched.{Event, Mark, mark_of, tells_message}
+use Rattle.fab_laws.specs.Matched.{Event, Mark, mark_of, tells_message, mark_at}
 use Rattle.fab_laws.specs.MessageLaws.{IsMessage, asked_by, asks_for}
 use Rattle.fab_laws.specs.Claimed.{Handling}
 use Rattle.fab_laws.specs.ClaimLaws.{WentTo}
-use Rattle.fab_laws.proofs.Counts.{in_many, one, in_split as in_either}
+use Rattle.fab_laws.proofs.Counts.{in_many, in_split as in_either}
+use Rattle.fab_base.specs.Many.{bit as one}
 use Rattle.fab_laws.proofs.Lists.{Each, always, each_in, each_so, found_in, in_back, in_front, in_map, in_middle, never, raise_here}
 use Rattle.fab_laws.proofs.matching.Moves.{Keeps}
 use Rattle.fab_laws.proofs.replies.Owed.{Lane, OwedAt, is_keep, unwhole_of}
@@ -34,7 +35,7 @@ use Rattle.fab_laws.proofs.streams.Told.{Aside, IsInto, Stands, Told, Truly}
 use Rattle.fab_laws.proofs.streams.Entries.{told_by}
 use Rattle.fab_laws.proofs.receiving.Acts.{Act, Arrives, Cancels, Claims, Closes, Discards, Draws, Drops, Ends, Fills, Gets, Joins, Passes, Plain, Posts, Rests, Seats, Takes, Waits, entries_for, entry_for, freed, given, is_into, leaving, subject, thrown}
 use Rattle.fab_laws.proofs.receiving.News.{coming_out, leaves_given, leaves_out}
-use Rattle.fab_laws.proofs.receiving.Settling.{Flows, SettledAt, Settling, mark_at, of_more}
+use Rattle.fab_laws.proofs.receiving.Settling.{Flows, SettledAt, Settling, of_more}
 
 abbrev Other : Written → Type 0
 Other w = tells_message w.entry ≡ false

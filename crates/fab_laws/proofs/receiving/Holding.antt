@@ -26,13 +26,14 @@ use Rattle.fab_laws.specs.Members.{Ahead, In, Never}
 use Rattle.fab_laws.specs.Programs.{Counts, Deed, Draw, Head, Makes, Opening, Peer, Tail, program, starting}
 use Rattle.fab_laws.specs.Moments.{LeadTo, remembered}
 use Rattle.fab_laws.specs.Completed.{has_ended, is_final, number, send_stands}
-use Rattle.fab_laws.specs.Matched.{Came, Cancelled, Event, Got, Lost, Made, Mark, Wish, arrives, came, cancel_of, cancels, fate, goes_into, gone, happens, is_posted, left, made, makes, mark_of, new_entry, noticed, noting, parted, past_of, taken_now, wish_of}
+use Rattle.fab_laws.specs.Matched.{Came, Cancelled, Event, Got, Lost, Made, Mark, Wish, arrives, came, cancel_of, cancels, fate, goes_into, gone, happens, is_posted, left, made, makes, mark_of, new_entry, noticed, noting, parted, past_of, taken_now, wish_of, mark_at}
 use Rattle.fab_laws.specs.MessageLaws.{IsMessage, IsOf, IsSized, asked_by, asked_of, asks_for, keeping_asked}
 use Rattle.fab_laws.specs.MultiLaws.{ClosesInTime, PartsStand, PlacesFollow, ReleasesInTime, ReleasesTell, TellsOnce, placed, release_of}
 use Rattle.fab_laws.specs.Claimed.{Claimed, Discarded, Dropped, Handling, Slipped, Took, aside_of, call_in, freed, handled_of, handles, handling, lost, put_away}
 use Rattle.fab_laws.specs.ClaimLaws.{FreedRightly, LostIsPutAway, StaysClaimed, TakesTell}
 use Rattle.fab_laws.specs.ReceiveLaws.{Aside, GoesOnce, GotIsTold, IsComing, IsToldOf, NoneIsLost, OneTells, Received, TookIsTold, Waits, WasDiscarded, WasDropped, WasTaken}
-use Rattle.fab_laws.proofs.Counts.{counted, in_many, many, same_one}
+use Rattle.fab_laws.proofs.Counts.{counted, in_many, same_one}
+use Rattle.fab_base.specs.Many.{many}
 use Rattle.fab_laws.proofs.Lists.{ahead_in, always, each_in, never}
 use Rattle.fab_laws.proofs.Memory.{remembered_keeps}
 use Rattle.fab_laws.proofs.Programs.{Own, program_patient}
@@ -56,7 +57,7 @@ use Rattle.fab_laws.proofs.receiving.Placing.{Grows, Placing, Rows, closes_when_
 use Rattle.fab_laws.proofs.receiving.Releasing.{Opens, fresh_opens, next_opens, opens_seen}
 use Rattle.fab_laws.proofs.receiving.Telling.{AllTold, next_late, placed_once, starting_late, tells_each}
 use Rattle.fab_laws.proofs.receiving.News.{news}
-use Rattle.fab_laws.proofs.receiving.Settling.{Flows, HasItem, Settled, Settling, mark_at, settles, came_either as came_parts}
+use Rattle.fab_laws.proofs.receiving.Settling.{Flows, HasItem, Settled, Settling, settles, came_either as came_parts}
 
 -- ---- the messages that arrive in a step are items
 

@@ -22,7 +22,7 @@ use Rattle.fab_model.proofs.Parts.{get_or-set, more_item, some_same}
 use Rattle.fab_model.proofs.Grows.{raised as raise_keeps}
 use Rattle.fab_laws.specs.Members.{Ahead, In, Never}
 use Rattle.fab_laws.specs.Programs.{Deed, Makes, starting}
-use Rattle.fab_laws.specs.Matched.{Event, Got, Mark, is_posted, mark_of}
+use Rattle.fab_laws.specs.Matched.{Event, Got, Mark, is_posted, mark_of, mark_at}
 use Rattle.fab_laws.specs.MessageLaws.{IsOf}
 use Rattle.fab_laws.specs.Claimed.{Handling}
 use Rattle.fab_laws.specs.MultiLaws.{BufferHolds, IsComingAt, handed_back, placed, release_of, used_in}
@@ -33,7 +33,7 @@ use Rattle.fab_laws.proofs.streams.Told.{IsInto, Truly}
 use Rattle.fab_laws.proofs.streams.Entries.{told_by}
 use Rattle.fab_laws.proofs.receiving.Acts.{Act, Cancels, Claims, Closes, Discards, Draws, Drops, Fills, Gets, Joins, Passes, Plain, Posts, Rests, Seats, Takes, Waits, cancelled_entry, entries_for, entry_for, given, is_into, leaving, let_out, subject, thrown, whole}
 use Rattle.fab_laws.proofs.receiving.News.{coming_out, leaves_given, leaves_out}
-use Rattle.fab_laws.proofs.receiving.Settling.{Flows, HasItem, SettledAt, mark_at}
+use Rattle.fab_laws.proofs.receiving.Settling.{Flows, HasItem, SettledAt}
 use Rattle.fab_laws.proofs.receiving.Opens.{AreSized, Buffer, Busy, Holds, IsMulti, ahead_mapped, calls, level, placed_more, placed_now, under_way_by}
 use Rattle.fab_laws.proofs.receiving.Filling.{Handed, IsReleased, NotGiven, Open, earlier, fill_holds, handed_level, in_shut, level_holds, lets_go, moved_holds, seat_holds}
 use Rattle.fab_laws.proofs.receiving.Placing.{Give, Grows, Join, Level, Placing, Rows, Stay, Up, in_parts, placed_got, seat_of, seated_seats, split}

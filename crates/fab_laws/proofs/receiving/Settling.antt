@@ -11,7 +11,7 @@ use Rattle.fab_model.specs.State.{State, coming_from}
 use Rattle.fab_model.specs.Views.{View}
 use Rattle.fab_laws.specs.Members.{In}
 use Rattle.fab_laws.specs.Programs.{peer}
-use Rattle.fab_laws.specs.Matched.{Came, Cancelled, Event, Got, Lost, Made, Mark, came, goes_into, tells_message}
+use Rattle.fab_laws.specs.Matched.{Came, Cancelled, Event, Got, Lost, Made, Mark, came, goes_into, tells_message, mark_at}
 use Rattle.fab_laws.specs.MessageLaws.{IsMessage, IsOf}
 use Rattle.fab_laws.specs.Claimed.{Handling, Took}
 use Rattle.fab_laws.specs.ClaimLaws.{IsOwn, WentTo}
@@ -37,9 +37,6 @@ SettledAt v m s call x place = IsComingAt s.rx call x place ⊎ IsToldAt m v.rea
 settled_at : (v : View Item) (m : List Receive) (s : State) (call : ℕ) (x : Mark) (place : ℕ) → SettledAt v m s call x place → Settled v m s call x
 settled_at v m s call x place (inl (r, comes, number, here)) = inl (ap goes_into comes ∙ ap Some number, here)
 settled_at v m s call x place (inr (w, i, (y, number, source, k, head, at))) = inr (w, i, (y, number, source, k, head))
-
-abbrev pub mark_at : ℕ → ℕ → Item → Mark
-mark_at source place item = record { source = source; place = place; head = item.head }
 
 -- what comes to a receive is an item, and went to it
 abbrev pub ComesTo : View Item → List Event → List Handling → List ℕ → ℕ → Receive → Type 0

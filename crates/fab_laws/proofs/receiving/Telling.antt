@@ -25,11 +25,13 @@ use Rattle.fab_model.specs.Views.{View}
 use Rattle.fab_model.proofs.Parts.{get_or-set, some_same}
 use Rattle.fab_laws.specs.Members.{Ahead, In, Never}
 use Rattle.fab_laws.specs.Programs.{Deed, Makes, Peer}
-use Rattle.fab_laws.specs.Matched.{Came, Cancelled, Event, Got, Lost, Made, Mark, goes_into, gone, mark_of, tells_message}
+use Rattle.fab_laws.specs.Matched.{Came, Cancelled, Event, Got, Lost, Made, Mark, goes_into, gone, mark_of, tells_message, mark_at}
 use Rattle.fab_laws.specs.MessageLaws.{IsOf}
 use Rattle.fab_laws.specs.Claimed.{Handling}
 use Rattle.fab_laws.specs.MultiLaws.{IsComingAt, TellsEach, entry_at, is_coming, placed, tells_of, used_in}
-use Rattle.fab_laws.proofs.Counts.{counted, in_split, many, many_append, one, one_none}
+use Rattle.fab_laws.proofs.Counts.{counted, in_split, one_none}
+use Rattle.fab_base.proofs.Counts.{many_append}
+use Rattle.fab_base.specs.Many.{bit as one, many}
 use Rattle.fab_laws.proofs.Lists.{Each, ahead_middle, always, each_append, each_in, each_so, found_in, in_back, in_front, in_map, in_middle, never}
 use Rattle.fab_laws.proofs.matching.Watch.{entry_tells}
 use Rattle.fab_laws.proofs.matching.Moves.{Keeps}
@@ -40,7 +42,7 @@ use Rattle.fab_laws.proofs.receiving.Acts.{Act, Arrives, Cancels, Claims, Closes
 use Rattle.fab_laws.proofs.receiving.News.{coming_out, leaves_given, leaves_out}
 use Rattle.fab_laws.proofs.receiving.Claiming.{OnceEach, got_gone}
 use Rattle.fab_laws.proofs.receiving.Flowing.{keep_no_into, kept_there, level_none}
-use Rattle.fab_laws.proofs.receiving.Settling.{Flows, HasItem, SettledAt, Settling, mark_at}
+use Rattle.fab_laws.proofs.receiving.Settling.{Flows, HasItem, SettledAt, Settling}
 use Rattle.fab_laws.proofs.receiving.Placing.{Grows, Placing, none_placed, placed_got, seat_of}
 use Rattle.fab_laws.proofs.receiving.Opens.{IsMulti, level, placed_is}
 use Rattle.fab_laws.proofs.receiving.Filling.{NotGiven}

@@ -12,9 +12,11 @@ use Rattle.fab_model.specs.Views.{seen}
 use Rattle.fab_laws.specs.Completed.{held}
 use Rattle.fab_laws.specs.Programs.{Peer, program}
 use Rattle.fab_laws.specs.ReplyLaws.{AllWaitAtMatch}
-use Rattle.fab_laws.proofs.Counts.{in_many, many, some_in}
+use Rattle.fab_laws.proofs.Counts.{in_many, some_in}
+use Rattle.fab_base.specs.Many.{many}
 use Rattle.fab_laws.proofs.Rest.{rest_at}
-use Rattle.fab_laws.proofs.replies.Owing.{debt, owing_item, owing_op, reply_item}
+use Rattle.fab_laws.proofs.replies.Owing.{debt, owing_item, owing_op}
+use Rattle.fab_base.specs.Replies.{is_answer as reply_item}
 use Rattle.fab_laws.proofs.replies.Owed.{got}
 use Rattle.fab_laws.proofs.replies.Stray.{all_owed, ready_is}
 

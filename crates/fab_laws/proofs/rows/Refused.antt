@@ -15,7 +15,8 @@ use Rattle.fab_laws.specs.Claimed.{Claimed, Dropped, Took, aside_of}
 use Rattle.fab_laws.specs.ReceiveLaws.{Aside, Fate, Received, Waits, WasDiscarded, WasDropped, WasTaken}
 use Rattle.fab_laws.specs.Refused.{CancelledInstead, ClosesEarly, FreedTwice, GotTwice, KeptBack, LeftOver, LostInside, LeavesGap, NeverTold, OtherContext, OtherMessage, Overlaps, ReleasedEarly, Repeated, SlipsAway, StaysOpen, Swapped, SwappedParts, ToldTwice, Unarrived, Unclaimed, Vanishes, WrongUsed}
 use Rattle.fab_laws.specs.MultiLaws.{entry_at, is_coming, placed, release_of, tells_of, used_in}
-use Rattle.fab_laws.proofs.Counts.{counted, many, one}
+use Rattle.fab_laws.proofs.Counts.{counted}
+use Rattle.fab_base.specs.Many.{bit as one, many}
 use Rattle.fab_laws.proofs.matching.Watch.{entry_tells}
 
 -- the first of a list

@@ -45,7 +45,8 @@ use Rattle.fab_laws.proofs.Stepping.{LineIs, StepIs, at_opening, step_is}
 use Rattle.fab_laws.proofs.completion.Calls.{draw_adds, sent_adds, tail_adds}
 use Rattle.fab_laws.proofs.completion.Places.{head_adds}
 use Rattle.fab_laws.proofs.replies.Owed.{Lane, OwedAt, is_keep, unwhole_of}
-use Rattle.fab_laws.proofs.Counts.{in_many, one}
+use Rattle.fab_laws.proofs.Counts.{in_many}
+use Rattle.fab_base.specs.Many.{bit as one}
 use Rattle.fab_laws.proofs.matching.Moves.{Keeps}
 use Rattle.fab_laws.proofs.matching.Steps.{step_keeps}
 use Rattle.fab_laws.proofs.matching.Orders.{fresh_keeps}

@@ -43,7 +43,8 @@ use Rattle.fab_model.specs.Calls.{Call, Transmit, Post, Look, TakeClaimed, DropC
 use Rattle.fab_model.proofs.Fences.{out_and_back}
 use Rattle.fab_model.proofs.Removing.{length-remove_first-le as removed_shorter}
 use Rattle.fab_laws.specs.Work.{coming_work, halves, heft, item_work, kind_work, on_way, own_work, waiting}
-use Rattle.fab_laws.proofs.Counts.{any_many, not_found}
+use Rattle.fab_laws.proofs.Counts.{any_many}
+use Rattle.fab_base.proofs.Counts.{not_found}
 use Rattle.fab_laws.proofs.Lists.{found_in}
 use Rattle.fab_laws.proofs.working.Sums.{changed_length, halves_head, halves_tail, heft_put, on_way_join, removed_length, waiting_join, waiting_sent}
 

@@ -1,5 +1,5 @@
 use Rattle.std.proofs.Common.{◌≡◌, ◌+◌, ◌-◌, ◌/◌, ◌%◌, suc, zero, [], ◌∷◌, ◌++◌, append_assoc, append-nil, sym, ap, ◌∙◌, arith}
-use Rattle.fab_grammar.specs.Atomics.{le_bytes}
+use Rattle.fab_model.specs.Target.{bytes_of as le_bytes}
 use Rattle.fab_grammar.proofs.atomics.push_bytes.Goals as goal
 
 pub loop-preserved : goal.loop-preserved

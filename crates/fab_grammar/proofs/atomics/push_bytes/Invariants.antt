@@ -1,5 +1,5 @@
 use Rattle.std.proofs.Common.{◌≡◌, ◌-◌, ◌++◌}
-use Rattle.fab_grammar.specs.Atomics.{le_bytes}
+use Rattle.fab_model.specs.Target.{bytes_of as le_bytes}
 use Rattle.fab_grammar.proofs.atomics.push_bytes.Given as goal
 
 abbrev pub invariant-loop : goal.invariant-loop
