@@ -1,5 +1,7 @@
 //! What is told at once: the first unexpected message that matches, and who the endpoint is.
 ghost use Rattle.std.specs.Prelude.{◌≡◌, Some, None, IfOk, IfErr};
+ghost use Rattle.fab_base.specs.declared.caps.Cap.TheVariants as cap;
+ghost use Rattle.fab_base.specs.Granted.{has};
 ghost use Rattle.fab_face.specs.Probes.{probed, probe_fault};
 
 use crate::endpoint::{Calls, Endpoint};
@@ -20,7 +22,7 @@ impl<E: Calls + Drop> Endpoint<E> {
     /// Whether a receive that names a source takes messages of this source alone (FI_DIRECTED_RECV). Else it takes those of
     /// any source.
     pub fn is_directed(&self) -> bool
-        ensures { result ≡ (E.seen self.now).held.state.caps.directed_recv }
+        ensures { result ≡ (has (E.seen self.now).held.state.caps cap.DirectedRecv) }
     {
         self.inner.is_directed()
     }

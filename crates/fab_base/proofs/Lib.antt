@@ -3,5 +3,6 @@ pub mod Numbers
 pub mod Options
 pub mod Lists
 pub mod Places
+pub mod Capabilities
 pub mod Members
 pub mod Counts

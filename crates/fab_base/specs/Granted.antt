@@ -1,43 +1,44 @@
 -- Sets of capabilities (fi_getinfo(3), "Capabilities").
+--     all_caps             all capabilities, in the order of printing
+--     cap_index cap        the place of the capability among them
 --     has caps cap         the capability is a member
 --     with_cap cap caps    these and this one
-use Rattle.std.specs.Prelude.{Bool, true}
+--     caps_of member       those of which this holds
+--     no_caps              no capability
+use Rattle.std.specs.Prelude.{ℕ, Bool, true, false, List, [], ◌∷◌, map, get_or, set}
 use Rattle.fab_base.specs.declared.caps.Cap.{Cap}
 use Rattle.fab_base.specs.declared.caps.Cap.TheVariants.{Msg, Tagged, Rma, Atomic, DirectedRecv, Send, Recv, Read, Write, RemoteRead, RemoteWrite, MultiRecv, Source, RmaEvent, Fence, LocalComm}
 use Rattle.fab_base.specs.declared.caps.Caps.{Caps}
 
+abbrev pub all_caps : List Cap
+all_caps = Msg ∷ Tagged ∷ Rma ∷ Atomic ∷ DirectedRecv ∷ Send ∷ Recv ∷ Read ∷ Write ∷ RemoteRead ∷ RemoteWrite ∷ MultiRecv ∷ Source ∷ RmaEvent ∷ Fence ∷ LocalComm ∷ []
+
+abbrev pub cap_index : Cap → ℕ
+cap_index Msg = 0
+cap_index Tagged = 1
+cap_index Rma = 2
+cap_index Atomic = 3
+cap_index DirectedRecv = 4
+cap_index Send = 5
+cap_index Recv = 6
+cap_index Read = 7
+cap_index Write = 8
+cap_index RemoteRead = 9
+cap_index RemoteWrite = 10
+cap_index MultiRecv = 11
+cap_index Source = 12
+cap_index RmaEvent = 13
+cap_index Fence = 14
+cap_index LocalComm = 15
+
 abbrev pub has : Caps → Cap → Bool
-has caps Msg = caps.msg
-has caps Tagged = caps.tagged
-has caps Rma = caps.rma
-has caps Atomic = caps.atomic
-has caps DirectedRecv = caps.directed_recv
-has caps Send = caps.send
-has caps Recv = caps.recv
-has caps Read = caps.read
-has caps Write = caps.write
-has caps RemoteRead = caps.remote_read
-has caps RemoteWrite = caps.remote_write
-has caps MultiRecv = caps.multi_recv
-has caps Source = caps.source
-has caps RmaEvent = caps.rma_event
-has caps Fence = caps.fence
-has caps LocalComm = caps.local_comm
+has caps cap = get_or caps.members (cap_index cap) false
 
 abbrev pub with_cap : Cap → Caps → Caps
-with_cap Msg caps = record caps { msg = true }
-with_cap Tagged caps = record caps { tagged = true }
-with_cap Rma caps = record caps { rma = true }
-with_cap Atomic caps = record caps { atomic = true }
-with_cap DirectedRecv caps = record caps { directed_recv = true }
-with_cap Send caps = record caps { send = true }
-with_cap Recv caps = record caps { recv = true }
-with_cap Read caps = record caps { read = true }
-with_cap Write caps = record caps { write = true }
-with_cap RemoteRead caps = record caps { remote_read = true }
-with_cap RemoteWrite caps = record caps { remote_write = true }
-with_cap MultiRecv caps = record caps { multi_recv = true }
-with_cap Source caps = record caps { source = true }
-with_cap RmaEvent caps = record caps { rma_event = true }
-with_cap Fence caps = record caps { fence = true }
-with_cap LocalComm caps = record caps { local_comm = true }
+with_cap cap caps = record caps { members = set caps.members (cap_index cap) true }
+
+abbrev pub caps_of : (Cap → Bool) → Caps
+caps_of member = record { members = map member all_caps }
+
+abbrev pub no_caps : Caps
+no_caps = caps_of (λ cap. false)

@@ -1,7 +1,7 @@
 //! The plain types of fabric: what calls, scripts and definitions speak of.
 //!
 //! Nothing here has behaviour beyond holding a value. Contracts see a [`Buf`] and a [`Text`] as
-//! their bytes, a [`List`] as the list of its members, a [`Caps`] as sixteen truth values, and every
+//! their bytes, a [`List`] as the list of its members, a [`Caps`] as the list of its truth values, and every
 //! other type as the record of its fields. A number is a natural number in contracts, with no wrap.
 //! The crates above add the meaning: `fab_model` the definitions, the others the code.
 //!
@@ -22,7 +22,7 @@ mod script;
 mod status;
 
 pub use buffers::{Buf, List, Text};
-pub use caps::{Api, CAPS, Cap, Caps, Hints, Info};
+pub use caps::{Api, CAP_COUNT, CAPS, Cap, Caps, Hints, Info};
 pub use entries::{Class, Entry, ErrEntry, ErrKind, Kept, PeekHow, Taken};
 pub use faults::{Busy, Fault, NoMemory, Refused};
 pub use frames::{Frame, FrameHead, FrameRef};

@@ -117,23 +117,6 @@ impl Cap {
     pub fn is_offered(self, api: Api) -> bool
         ensures { result ≡ is_offered api self }
     {
-        match self {
-            Cap::RmaEvent => api == Api::Two,
-            Cap::Msg
-            | Cap::Tagged
-            | Cap::Rma
-            | Cap::Atomic
-            | Cap::DirectedRecv
-            | Cap::Send
-            | Cap::Recv
-            | Cap::Read
-            | Cap::Write
-            | Cap::RemoteRead
-            | Cap::RemoteWrite
-            | Cap::MultiRecv
-            | Cap::Source
-            | Cap::Fence
-            | Cap::LocalComm => true,
-        }
+        self != Cap::RmaEvent || api == Api::Two
     }
 }

@@ -53,7 +53,7 @@ impl State {
         let Some(index) = source else {
             return None;
         };
-        if self.caps.directed_recv {
+        if self.caps.has(Cap::DirectedRecv) {
             self.lookup(index)
         } else {
             None
@@ -65,7 +65,7 @@ impl State {
     {
         match source {
             None => true,
-            Some(index) => !self.caps.directed_recv || self.lookup(index).is_some(),
+            Some(index) => !self.caps.has(Cap::DirectedRecv) || self.lookup(index).is_some(),
         }
     }
 
@@ -86,11 +86,11 @@ impl State {
         ensures { result ≡ may_receive (state_of self.now) tagged }
     {
         let kind = if tagged {
-            self.caps.tagged
+            self.caps.has(Cap::Tagged)
         } else {
-            self.caps.msg
+            self.caps.has(Cap::Msg)
         };
-        self.caps.recv && kind
+        self.caps.has(Cap::Recv) && kind
     }
 
     /// The arrival goes to the receive, from this place on.

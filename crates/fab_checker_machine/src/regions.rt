@@ -13,8 +13,8 @@ impl State {
     pub fn call_reg(&mut self, key: u64, access: Access, bytes: Buf) -> Result<LineResult, NoMemory>
         ensures { IfOk result (λ answer. (answer, state_of self.new) ≡ reg (state_of self.old) key access bytes) }
     {
-        if (access.remote_read && !self.caps.remote_read)
-            || (access.remote_write && !self.caps.remote_write)
+        if (access.remote_read && !self.caps.has(Cap::RemoteRead))
+            || (access.remote_write && !self.caps.has(Cap::RemoteWrite))
         {
             return Ok(LineResult::Refused(Fault::NotSupported));
         }

@@ -25,7 +25,7 @@ impl State {
     fn count_remote(&mut self, outcome: Outcome, head: &ItemHead)
         ensures { state_of self.new ≡ remote_event outcome head.now (state_of self.old) }
     {
-        if outcome == Outcome::Done && self.caps.rma_event {
+        if outcome == Outcome::Done && self.caps.has(Cap::RmaEvent) {
             let class = if head.is_answered() {
                 Class::RemoteRead
             } else {

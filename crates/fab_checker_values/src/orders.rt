@@ -41,12 +41,12 @@ pub fn atom_is_granted(caps: &Caps, atom: Option<Atom>) -> bool
         return false;
     };
     match atom.form {
-        Form::Base => caps.write,
+        Form::Base => caps.has(Cap::Write),
         Form::Fetch => match atom.op {
-            AtomicOp::AtomicRead => caps.read,
-            _ => caps.read && caps.write,
+            AtomicOp::AtomicRead => caps.has(Cap::Read),
+            _ => caps.has(Cap::Read) && caps.has(Cap::Write),
         },
-        Form::Compare => caps.read && caps.write,
+        Form::Compare => caps.has(Cap::Read) && caps.has(Cap::Write),
     }
 }
 
@@ -55,11 +55,11 @@ pub fn is_granted(caps: &Caps, kind: Kind, atom: Option<Atom>) -> bool
     ensures { result ≡ is_granted caps.now kind atom }
 {
     match kind {
-        Kind::Msg => caps.msg && caps.send,
-        Kind::TagMsg => caps.tagged && caps.send,
-        Kind::ReadReq => caps.rma && caps.read,
-        Kind::WriteReq => caps.rma && caps.write,
-        Kind::AtomicReq => caps.atomic && atom_is_granted(caps, atom),
+        Kind::Msg => caps.has(Cap::Msg) && caps.has(Cap::Send),
+        Kind::TagMsg => caps.has(Cap::Tagged) && caps.has(Cap::Send),
+        Kind::ReadReq => caps.has(Cap::Rma) && caps.has(Cap::Read),
+        Kind::WriteReq => caps.has(Cap::Rma) && caps.has(Cap::Write),
+        Kind::AtomicReq => caps.has(Cap::Atomic) && atom_is_granted(caps, atom),
         Kind::Reply => false,
     }
 }

@@ -2,6 +2,8 @@
 use Rattle.std.proofs.Common.{◌≡◌, inl, inr, ◌⊎◌, ℕ, ◌+◌, ◌<◌, Bool, true, false, List, length, Option, Some, None, refl, sym, ap, ◌∙◌, subst, ◌≤◌}
 use Rattle.std.specs.Prelude.{IfSome, find, is_some, slice_index}
 use Rattle.std.proofs.lemmas.Bool.{eqb-true}
+use Rattle.fab_base.specs.declared.caps.Cap.TheVariants as cap
+use Rattle.fab_base.specs.Granted.{has}
 use Rattle.fab_base.specs.declared.entries.Class.TheVariants.{Recv}
 use Rattle.fab_base.specs.declared.entries.Entry.TheVariants.{Released as GivenBack}
 use Rattle.fab_base.specs.declared.entries.Taken.TheVariants.{Success}
@@ -249,10 +251,10 @@ module _ (p : Parts) (ok : IsTogether p) (rx : IsArriving p.rx) (tx : IsTransit 
       subst (λ (y : Item). IsSound y.head × (room_for y.head ≤ slice_index target.rooms source)) (sym e.1) (awaited request)
 
   pub end_request : (came : Item) → Hands (RequestCame came)
-      → IsEnd (record (then (booking source (reply_of came.head (perform p.target.regions came.head came.bytes)) p.tx) (written_if None (data_of (outcome_at p.target.regions came.head) source came.head) p.cq) (counted (outcome_at p.target.regions came.head) p.caps.rma_event came.head p.counters)) { target = served source came p.target })
+      → IsEnd (record (then (booking source (reply_of came.head (perform p.target.regions came.head came.bytes)) p.tx) (written_if None (data_of (outcome_at p.target.regions came.head) source came.head) p.cq) (counted (outcome_at p.target.regions came.head) (has p.caps cap.RmaEvent) came.head p.counters)) { target = served source came p.target })
   end_request came is =
       let e = ended_request (coming_from p.rx.rx source) source item came (unhanded p.rx (last_of source p.rx) (ended (coming_from p.rx.rx source) source item) (RequestCame came) is (λ x y same. absurd (cc))) in
-      subst (λ (y : Item). IsEnd (record (then (booking source (reply_of y.head (perform p.target.regions y.head y.bytes)) p.tx) (written_if None (data_of (outcome_at p.target.regions y.head) source y.head) p.cq) (counted (outcome_at p.target.regions y.head) p.caps.rma_event y.head p.counters)) { target = served source y p.target })) (sym e.1)
+      subst (λ (y : Item). IsEnd (record (then (booking source (reply_of y.head (perform p.target.regions y.head y.bytes)) p.tx) (written_if None (data_of (outcome_at p.target.regions y.head) source y.head) p.cq) (counted (outcome_at p.target.regions y.head) (has p.caps cap.RmaEvent) y.head p.counters)) { target = served source y p.target })) (sym e.1)
       (rw e.0 refl, together_requested p ok source item within begun tx.rooms e.0 _ _ (size_written None (data_of (outcome_at p.target.regions item.head) source item.head) p.cq) refl refl refl refl, refl)
 
   -- what the machine says of it

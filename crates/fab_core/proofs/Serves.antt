@@ -4,6 +4,8 @@ use Rattle.std.specs.Prelude.{IfSome, is_some, slice_index_or, slice_set}
 use Rattle.std.specs.Option.{option_map}
 use Rattle.std.proofs.lemmas.Bool.{cases_eq, cases_lt}
 use Rattle.std.proofs.lemmas.List.{get_or-replicate, get_or_past, length-replicate, set_past}
+use Rattle.fab_base.specs.declared.caps.Cap.TheVariants as cap
+use Rattle.fab_base.specs.Granted.{has}
 use Rattle.fab_base.specs.declared.items.Item.{Item}
 use Rattle.fab_base.specs.declared.items.ItemHead.{ItemHead}
 use Rattle.fab_base.specs.declared.items.Kind.{Kind}
@@ -113,13 +115,13 @@ told BadAccess head s source = refl
 told BadRange head s source = refl
 
 -- it counts where such events do
-counts : (o : Outcome) (head : ItemHead) (s : State) → remote_event o head s ≡ record s { counters = counted o s.caps.rma_event head s.counters }
+counts : (o : Outcome) (head : ItemHead) (s : State) → remote_event o head s ≡ record s { counters = counted o (has s.caps cap.RmaEvent) head s.counters }
 counts BadKey head s = refl
 counts BadAccess head s = refl
 counts BadRange head s = refl
-counts Done head s = by s.caps.rma_event refl
+counts Done head s = by (has s.caps cap.RmaEvent) refl
   where
-    by : (b : Bool) → s.caps.rma_event ≡ b → remote_event Done head s ≡ record s { counters = counted Done s.caps.rma_event head s.counters }
+    by : (b : Bool) → has s.caps cap.RmaEvent ≡ b → remote_event Done head s ≡ record s { counters = counted Done (has s.caps cap.RmaEvent) head s.counters }
     by true e = rw e refl
     by false e = rw e refl
 
@@ -134,9 +136,9 @@ unfolding do_request reply
 requested_is p source item =
     let done = perform p.target.regions item.head item.bytes in
     let s = replied p source item in
-    subst (λ (o : Outcome). remote_data done.outcome source item.head (remote_event done.outcome item.head s) ≡ record s { cq = written_if None (data_of o source item.head) p.cq; counters = counted o p.caps.rma_event item.head p.counters })
+    subst (λ (o : Outcome). remote_data done.outcome source item.head (remote_event done.outcome item.head s) ≡ record s { cq = written_if None (data_of o source item.head) p.cq; counters = counted o (has p.caps cap.RmaEvent) item.head p.counters })
     (outcome_is p.target.regions item.head item.bytes)
-    (ap (remote_data done.outcome source item.head) (counts done.outcome item.head s) ∙ told done.outcome item.head (record s { counters = counted done.outcome p.caps.rma_event item.head p.counters }) source)
+    (ap (remote_data done.outcome source item.head) (counts done.outcome item.head s) ∙ told done.outcome item.head (record s { counters = counted done.outcome (has p.caps cap.RmaEvent) item.head p.counters }) source)
 
 -- a completion is written where the outcome says so
 pub writes_told : (o : Outcome) (source : ℕ) (head : ItemHead) → is_some (data_of o source head) ≡ writes_data o head

@@ -8,6 +8,8 @@
 --     posted_by, left_by              a receive call, a cancel
 --     accepted_by                     a message is accepted
 use Rattle.std.specs.Prelude.{ℕ, ◌+◌, Bool, true, false, ◌&&◌, ◌||◌, ◌==◌, not, List, [], Option, Some, None, is_some, find, unwrap_or}
+use Rattle.fab_base.specs.declared.caps.Cap.TheVariants as cap
+use Rattle.fab_base.specs.Granted.{has}
 use Rattle.fab_base.specs.declared.entries.Class.TheVariants.{Recv}
 use Rattle.fab_base.specs.declared.entries.Entry.TheVariants.{Released}
 use Rattle.fab_base.specs.declared.entries.ErrKind.TheVariants.{Canceled}
@@ -102,7 +104,7 @@ requested source item p = record p {
   target = served source item p.target;
   tx = booking source (reply_of item.head (perform p.target.regions item.head item.bytes)) p.tx;
   cq = written_if None (data_of (outcome_at p.target.regions item.head) source item.head) p.cq;
-  counters = counted (outcome_at p.target.regions item.head) p.caps.rma_event item.head p.counters;
+  counters = counted (outcome_at p.target.regions item.head) (has p.caps cap.RmaEvent) item.head p.counters;
 }
 
 abbrev pub whole : Option Coming → ℕ → Item → Parts → Parts

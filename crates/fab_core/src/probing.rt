@@ -28,6 +28,6 @@ impl<M: Matcher> Probing for Core<M> {
     }
 
     fn is_directed(&self) -> bool {
-        self.caps.directed_recv
+        self.caps.has(Cap::DirectedRecv)
     }
 }

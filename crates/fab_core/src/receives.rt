@@ -26,11 +26,11 @@ impl<M: Matcher> Core<M> {
     pub(crate) fn may_receive(&self, tagged: bool) -> bool
         ensures { result ≡ may_receive (state_of self.now) tagged }
     {
-        self.caps.recv
+        self.caps.has(Cap::Recv)
             && if tagged {
-                self.caps.tagged
+                self.caps.has(Cap::Tagged)
             } else {
-                self.caps.msg
+                self.caps.has(Cap::Msg)
             }
     }
 
@@ -40,7 +40,7 @@ impl<M: Matcher> Core<M> {
     {
         match source {
             None => true,
-            Some(index) => !self.caps.directed_recv || self.av.lookup(index).is_ok(),
+            Some(index) => !self.caps.has(Cap::DirectedRecv) || self.av.lookup(index).is_ok(),
         }
     }
 
@@ -49,7 +49,7 @@ impl<M: Matcher> Core<M> {
         ensures { result ≡ used_source (state_of self.now) source }
     {
         match source {
-            Some(index) if self.caps.directed_recv => self.av.lookup(index).ok(),
+            Some(index) if self.caps.has(Cap::DirectedRecv) => self.av.lookup(index).ok(),
             _ => None,
         }
     }

@@ -272,7 +272,7 @@ impl<M: Matcher> Core<M> {
                 cq,
                 counters,
                 target,
-                caps.rma_event,
+                caps.has(Cap::RmaEvent),
                 source,
                 item,
             ),

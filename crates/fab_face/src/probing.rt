@@ -1,5 +1,7 @@
 //! What an endpoint tells at once: the first unexpected message that matches, and who it is.
 ghost use Rattle.std.specs.Prelude.{◌≡◌, Some, None, IfOk, IfErr};
+ghost use Rattle.fab_base.specs.declared.caps.Cap.TheVariants as cap;
+ghost use Rattle.fab_base.specs.Granted.{has};
 ghost use Rattle.fab_face.specs.Probes.{probed, probe_fault};
 
 use crate::calls::Sees;
@@ -24,7 +26,7 @@ pub trait Probing: Machine {
 
     /// Whether a source that is named counts (FI_DIRECTED_RECV).
     fn is_directed(&self) -> bool
-        ensures { result ≡ (Self.held self.now).state.caps.directed_recv };
+        ensures { result ≡ (has (Self.held self.now).state.caps cap.DirectedRecv) };
 }
 
 /// The same of an endpoint.
@@ -37,7 +39,7 @@ pub trait Probes: Sees {
 
     /// Whether a source that is named counts (FI_DIRECTED_RECV).
     fn is_directed(&self) -> bool
-        ensures { result ≡ (Self.seen self.now).held.state.caps.directed_recv };
+        ensures { result ≡ (has (Self.seen self.now).held.state.caps cap.DirectedRecv) };
 }
 
 /// Who the endpoint is.

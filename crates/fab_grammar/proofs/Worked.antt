@@ -1,6 +1,7 @@
 -- Texts whose scripts are worked out by the definitions alone.
 use Rattle.std.proofs.Common.{◌≡◌, ℕ, List, [], ◌∷◌, ◌++◌, Some, None, true, false, refl}
 use Rattle.std.specs.Prelude.{codes, Ok, Err}
+use Rattle.fab_base.specs.Granted.{caps_of}
 use Rattle.fab_base.specs.declared.status.Why.TheVariants as why
 use Rattle.fab_base.specs.declared.peers.Level.TheVariants.{Transmit}
 use Rattle.fab_base.specs.declared.script.BytesWord.TheVariants.{Text}
@@ -16,7 +17,6 @@ use Rattle.fab_grammar.specs.Settings.{no_settings}
 use Rattle.fab_base.specs.declared.caps.Api.TheVariants.{One}
 use Rattle.fab_base.specs.declared.caps.Info.{Info}
 use Rattle.fab_base.specs.Offer.{is_offered}
-use Rattle.fab_model.specs.Negotiation.{caps_of}
 use Rattle.fab_grammar.specs.Opened.{grammar}
 
 abbrev line : List ℕ → List ℕ → List ℕ

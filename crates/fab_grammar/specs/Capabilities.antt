@@ -3,11 +3,11 @@
 --     caps_of word       those whose names the commas join
 use Rattle.std.specs.Prelude.{ℕ, Bool, ◌==◌, List, [], ◌∷◌, codes, bytes_eq, find, Option, Some, None, Result, Ok, Err}
 use Rattle.std.specs.List.{slice_split}
-use Rattle.fab_base.specs.Granted.{with_cap}
+use Rattle.fab_base.specs.Granted.{with_cap, all_caps}
 use Rattle.fab_base.specs.declared.caps.Cap.{Cap}
 use Rattle.fab_base.specs.declared.caps.Cap.TheVariants as cap
 use Rattle.fab_base.specs.declared.caps.Caps.{Caps}
-use Rattle.fab_model.specs.Negotiation.{all_caps, no_hints}
+use Rattle.fab_model.specs.Negotiation.{no_hints}
 use Rattle.fab_words.specs.declared.misread.Misread.{Misread}
 use Rattle.fab_words.specs.declared.misread.Misread.TheVariants.{Words}
 

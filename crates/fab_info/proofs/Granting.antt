@@ -5,7 +5,7 @@ use Rattle.std.specs.List.{list_any}
 use Rattle.std.proofs.lemmas.Bool.{or_parts, or_cases, and_parts, not-true}
 use Rattle.std.proofs.lemmas.Bool.Decides.{nat_tests}
 use Rattle.std.proofs.lemmas.List.Folds.{list_any_at, Any-from_list_any}
-use Rattle.fab_base.specs.Granted.{has}
+use Rattle.fab_base.specs.Granted.{has, all_caps, caps_of}
 use Rattle.fab_base.specs.Offer.{limits_of, is_offered, most_message, most_peers}
 use Rattle.fab_base.specs.declared.caps.Api.{Api}
 use Rattle.fab_base.specs.declared.caps.Api.TheVariants.{One, Two}
@@ -15,7 +15,7 @@ use Rattle.fab_base.specs.declared.caps.Caps.{Caps}
 use Rattle.fab_base.specs.declared.caps.Hints.{Hints}
 use Rattle.fab_base.specs.declared.limits.Size.{Size}
 use Rattle.fab_base.specs.declared.limits.Size.TheVariants.{Peers, Lane, Pool, Tx, Rx, Cq, Log, Inject, Message}
-use Rattle.fab_model.specs.Negotiation.{all_caps, has_any, grants, grants_of, caps_of, is_not_offered, wish, size_of, wish_is_refused, is_refused, granted_info}
+use Rattle.fab_model.specs.Negotiation.{has_any, grants, grants_of, is_not_offered, wish, size_of, wish_is_refused, is_refused, granted_info}
 use Rattle.fab_info.specs.Negotiation.{wish_in, number, Includes, IsWithin, IsOutside, CannotBeHad}
 
 -- ---- capabilities

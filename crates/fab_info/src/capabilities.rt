@@ -1,8 +1,9 @@
 //! The capabilities that are granted (fi_getinfo(3), "Capabilities").
 ghost use Rattle.std.specs.Prelude.{◌≡◌};
 ghost use Rattle.std.specs.List.{list_any};
+ghost use Rattle.fab_base.specs.Granted.{all_caps, caps_of};
 ghost use Rattle.fab_base.specs.Offer.{is_offered};
-ghost use Rattle.fab_model.specs.Negotiation.{all_caps, has_any, modifier, grants, grants_of, caps_of, is_not_offered};
+ghost use Rattle.fab_model.specs.Negotiation.{has_any, modifier, grants, grants_of, is_not_offered};
 
 use fab_base::{Api, CAPS, Cap, Caps};
 

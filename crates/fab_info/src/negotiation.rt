@@ -1,9 +1,10 @@
 //! Hints in, and what is granted out.
 ghost use Rattle.std.specs.Prelude.{◌≡◌, IfOk, IfErr, OnErr, IsTrue, IsFalse, Some, None, option_copied};
+ghost use Rattle.fab_base.specs.Granted.{all_caps, caps_of};
 ghost use Rattle.fab_base.specs.declared.faults.Fault.TheVariants.{NoData};
 ghost use Rattle.fab_base.specs.Offer.{is_offered};
 ghost use Rattle.fab_base.specs.declared.limits.Size.{Size};
-ghost use Rattle.fab_model.specs.Negotiation.{all_caps, has_any, caps_of, grant, grant_of, is_refused, granted_info, no_hints};
+ghost use Rattle.fab_model.specs.Negotiation.{has_any, grant, grant_of, is_refused, granted_info, no_hints};
 ghost use Rattle.fab_info.specs.Negotiation.{asked, number, is_primary, Includes, IsOffered, SameIn, IsWithin, CannotBeHad};
 
 use crate::{capabilities, sizes};

@@ -8,6 +8,8 @@ use Rattle.std.proofs.lemmas.List.{get_or_append_left, length-map, map-append}
 use Rattle.std.proofs.lemmas.List.Elements.{All-get_or}
 use Rattle.std.proofs.lemmas.Option.{get_or_from_slice_get, slice_get-map, slice_get_within}
 use Rattle.std.proofs.lemmas.Simd.{map-map}
+use Rattle.fab_base.specs.declared.caps.Cap.TheVariants as cap
+use Rattle.fab_base.specs.Granted.{has}
 use Rattle.fab_base.specs.declared.caps.Info.{Info}
 use Rattle.fab_base.specs.declared.items.Want.{Want}
 use Rattle.fab_model.specs.Calls.{Call, Transmit, upto}
@@ -153,11 +155,11 @@ module _ (info : Info) (selective : Bool) (speakers : List Speaker) (opened : Ar
   directed_to true o e = refl
   directed_to false o e = absurd (cc)
 
-  module _ (directed : info.caps.directed_recv ≡ true) (p q : ℕ) (x y : Speaker) (at_x : slice_get speakers p ≡ Some x) (at_y : slice_get speakers q ≡ Some y) where
+  module _ (directed : has info.caps cap.DirectedRecv ≡ true) (p q : ℕ) (x y : Speaker) (at_x : slice_get speakers p ≡ Some x) (at_y : slice_get speakers q ≡ Some y) where
     source_is : (source : Option ℕ) → source ≡ Some p → used_source y.opened.held.state source ≡ Some p
     source_is source is =
         let below : p < info.peers = (let lt = slice_get_within speakers p x at_x in omega (arith, lt, count)) in
-        ap (used_source y.opened.held.state) is ∙ ap (λ (s : State). used_source s (Some p)) (opens_so q y at_y) ∙ directed_to info.caps.directed_recv (lookup (map Some (upto info.peers)) p) directed ∙ known info.peers p below
+        ap (used_source y.opened.held.state) is ∙ ap (λ (s : State). used_source s (Some p)) (opens_so q y at_y) ∙ directed_to (has info.caps cap.DirectedRecv) (lookup (map Some (upto info.peers)) p) directed ∙ known info.peers p below
 
     want_is : (tagged : Bool) (tag ignore : ℕ) (r : Posting) → IsFor p tagged tag ignore r → want_at y.opened.held.state r ≡ want_for p tagged tag ignore
     want_is tagged tag ignore r f = λ i. record { tagged = f.tagged_so i; tag = f.tag_is i; ignore = f.ignores i; source = source_is r.source f.source i }

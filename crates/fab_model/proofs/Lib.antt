@@ -25,7 +25,6 @@ pub mod Letting
 pub mod Refusals
 pub mod refused
 pub mod rows
-pub mod Members
 pub mod Removing
 pub mod Answering
 pub mod Unchanged

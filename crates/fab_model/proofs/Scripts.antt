@@ -1,13 +1,15 @@
 -- Bound scripts for the worked rows, of either version: default sizes, the whole offer.
 use Rattle.std.specs.Prelude.{Bool, ◌≡◌, ℕ, IsTrue, true, false, List, [], None, length}
+use Rattle.fab_base.specs.Granted.{caps_of, no_caps, with_cap}
 use Rattle.fab_base.specs.Offer.{is_offered, most_message, version_of}
 use Rattle.fab_base.specs.declared.caps.Api.{Api}
 use Rattle.fab_base.specs.declared.caps.Api.TheVariants.{One, Two}
+use Rattle.fab_base.specs.declared.caps.Cap.TheVariants.{Tagged}
 use Rattle.fab_base.specs.declared.caps.Info.{Info}
 use Rattle.fab_base.specs.declared.script.Bound.{Bound}
 use Rattle.fab_base.specs.declared.script.Line.{Line}
 use Rattle.fab_base.specs.declared.script.LineOp.{LineOp}
-use Rattle.fab_model.specs.Negotiation.{caps_of}
+use Rattle.fab_model.specs.Negotiation.{grants}
 use Rattle.fab_model.specs.Report.{report, traces}
 use Rattle.fab_model.specs.Replay.{replayed, Lawful, at_rest}
 
@@ -50,18 +52,7 @@ selective_script_of peers = script_with (defaults One (length peers)) true peers
 
 -- `caps FI_TAGGED`
 abbrev pub tagged_script_of : List (List Line) → Bound
-tagged_script_of peers = script_with (let info = defaults One (length peers) in record info {
-  caps = (let caps = info.caps in record caps {
-    msg = false;
-    rma = false;
-    atomic = false;
-    directed_recv = false;
-    read = false;
-    write = false;
-    remote_read = false;
-    remote_write = false;
-  });
-}) false peers
+tagged_script_of peers = script_with (let info = defaults One (length peers) in record info { caps = caps_of (grants One (with_cap Tagged no_caps)) }) false peers
 
 abbrev pub line : ℕ → LineOp → Line
 line number op = record { number = number; op = op }

@@ -3,6 +3,8 @@
 --     do_draw s                  a multi-receive takes an unexpected message
 --     do_tail s source head bytes      the bytes of the item that arrived are whole
 use Rattle.std.specs.Prelude.{ℕ, ◌+◌, ◌-◌, min, Bool, true, false, not, ◌==◌, nat_lt, List, [], ◌∷◌, ◌++◌, length, Option, Some, None, slice_set, slice_index, find, map}
+use Rattle.fab_base.specs.declared.caps.Cap.TheVariants as cap
+use Rattle.fab_base.specs.Granted.{has}
 use Rattle.fab_base.specs.declared.items.Kind.{Kind}
 use Rattle.fab_base.specs.declared.items.Kind.TheVariants.{WriteReq, Reply}
 use Rattle.fab_base.specs.declared.items.Outcome.{Outcome}
@@ -131,7 +133,7 @@ remote_class head = elim (is_answered head) [ true ↦ RemoteRead | false ↦ Re
 
 -- a performed request counts at its target where FI_RMA_EVENT is granted
 abbrev pub remote_event : Outcome → ItemHead → State → State
-remote_event Done head s = elim s.caps.rma_event [ true ↦ count (remote_class head) true s | false ↦ s ]
+remote_event Done head s = elim (has s.caps cap.RmaEvent) [ true ↦ count (remote_class head) true s | false ↦ s ]
 remote_event _ head s = s
 
 abbrev pub with_regions : List Region → State → State

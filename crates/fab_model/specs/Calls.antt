@@ -2,6 +2,8 @@
 --     do_call s c      the answer, and the state after the call
 --     call_of op      the call of a line, where it is one
 use Rattle.std.specs.Prelude.{ℕ, ◌+◌, ◌*◌, min, Bool, true, false, not, ◌&&◌, ◌||◌, ◌==◌, nat_lt, List, [], ◌∷◌, ◌++◌, length, zero, suc, Option, Some, None, slice_set, is_some, is_none, find, position, replicate, decimal, codes, bytes_eq, unwrap_or}
+use Rattle.fab_base.specs.declared.caps.Cap.TheVariants as cap
+use Rattle.fab_base.specs.Granted.{has}
 use Rattle.fab_base.specs.declared.limits.TheConstants.{MOST_INDICES}
 use Rattle.fab_base.specs.declared.items.Kind.{Kind}
 use Rattle.fab_base.specs.declared.items.Kind.TheVariants.{Msg, TagMsg, WriteReq, ReadReq, AtomicReq}
@@ -88,7 +90,7 @@ region_of s key = find (is_keyed key) s.regions
 
 unfoldable pub reg : State → ℕ → Access → List ℕ → LineResult × State
 reg s key access bytes = answer (first_fault (
-    (access.remote_read && not s.caps.remote_read || access.remote_write && not s.caps.remote_write, NotSupported)
+    (access.remote_read && not (has s.caps cap.RemoteRead) || access.remote_write && not (has s.caps cap.RemoteWrite), NotSupported)
     ∷ (is_some (region_of s key), NoKey)
     ∷ []
     )) s (record s { regions = s.regions ++ record { key = key; access = access; bytes = bytes } ∷ [] })

@@ -4,7 +4,7 @@
 --     grant api hints           what is granted; None where it is refused
 use Rattle.std.specs.Prelude.{ℕ, Bool, true, false, not, ◌&&◌, ◌||◌, ◌==◌, nat_lt, List, [], ◌∷◌, Option, Some, None}
 use Rattle.std.specs.List.{list_any}
-use Rattle.fab_base.specs.Granted.{has}
+use Rattle.fab_base.specs.Granted.{all_caps, caps_of, has, no_caps}
 use Rattle.fab_base.specs.Offer.{limits_of, is_offered}
 use Rattle.fab_base.specs.declared.caps.Api.{Api}
 use Rattle.fab_base.specs.declared.caps.Cap.{Cap}
@@ -23,9 +23,6 @@ message_modifiers = Send ∷ Recv ∷ []
 
 abbrev pub memory_modifiers : List Cap
 memory_modifiers = Read ∷ Write ∷ RemoteRead ∷ RemoteWrite ∷ []
-
-abbrev pub all_caps : List Cap
-all_caps = Msg ∷ Tagged ∷ Rma ∷ Atomic ∷ DirectedRecv ∷ Send ∷ Recv ∷ Read ∷ Write ∷ RemoteRead ∷ RemoteWrite ∷ MultiRecv ∷ Source ∷ RmaEvent ∷ Fence ∷ LocalComm ∷ []
 
 -- the set has one of these
 abbrev pub has_any : Caps → List Cap → Bool
@@ -57,26 +54,6 @@ grants_of api asked LocalComm = is_offered api LocalComm
 -- whoever asks for nothing is granted the whole offer
 abbrev pub grants : Api → Caps → Cap → Bool
 grants api asked cap = elim (has_any asked all_caps) [ true ↦ grants_of api asked cap | false ↦ is_offered api cap ]
-
-abbrev pub caps_of : (Cap → Bool) → Caps
-caps_of member = record {
-  msg = member Msg;
-  tagged = member Tagged;
-  rma = member Rma;
-  atomic = member Atomic;
-  directed_recv = member DirectedRecv;
-  send = member Send;
-  recv = member Recv;
-  read = member Read;
-  write = member Write;
-  remote_read = member RemoteRead;
-  remote_write = member RemoteWrite;
-  multi_recv = member MultiRecv;
-  source = member Source;
-  rma_event = member RmaEvent;
-  fence = member Fence;
-  local_comm = member LocalComm;
-}
 
 -- a capability is asked for that is not on offer
 abbrev pub is_not_offered : Api → Caps → Cap → Bool
@@ -128,7 +105,7 @@ granted_info api h = record {
 -- no capability, and no wish
 abbrev pub no_hints : Hints
 no_hints = record {
-  caps = caps_of (λ cap. false);
+  caps = no_caps;
   peers = None;
   lane = None;
   pool = None;

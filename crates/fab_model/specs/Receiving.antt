@@ -3,6 +3,8 @@
 --     draw_due rx      a posted multi-receive matches an unexpected message
 use Rattle.std.specs.Prelude.{ℕ, Bool, true, false, not, ◌&&◌, ◌||◌, ◌==◌, nat_lt, nat_le, List, [], ◌∷◌, ◌++◌, length, Option, Some, None, slice_set, is_some, is_none, find, cond}
 use Rattle.std.specs.List.{list_any}
+use Rattle.fab_base.specs.declared.caps.Cap.TheVariants as cap
+use Rattle.fab_base.specs.Granted.{has}
 use Rattle.fab_base.specs.declared.items.Want.{Want}
 use Rattle.fab_base.specs.declared.faults.Fault.{Fault}
 use Rattle.fab_base.specs.declared.faults.Fault.TheVariants.{Again, NotSupported, MsgSize, Invalid, NoEntry}
@@ -39,11 +41,11 @@ pub record Posting : Type 0 where
 -- the peer that is meant, where a source is used (FI_DIRECTED_RECV)
 abbrev pub used_source : State → Option ℕ → Option ℕ
 used_source s None = None
-used_source s (Some index) = elim s.caps.directed_recv [ true ↦ lookup s.av index | false ↦ None ]
+used_source s (Some index) = elim (has s.caps cap.DirectedRecv) [ true ↦ lookup s.av index | false ↦ None ]
 
 abbrev pub source_is_known : State → Option ℕ → Bool
 source_is_known s None = true
-source_is_known s (Some index) = not s.caps.directed_recv || is_some (lookup s.av index)
+source_is_known s (Some index) = not (has s.caps cap.DirectedRecv) || is_some (lookup s.av index)
 
 abbrev pub want_of : State → Bool → Option ℕ → ℕ → ℕ → Want
 want_of s tagged source tag ignore = record { tagged = tagged; tag = tag; ignore = ignore; source = used_source s source }
@@ -101,7 +103,7 @@ post s p =
     ]
 
 abbrev pub may_receive : State → Bool → Bool
-may_receive s tagged = s.caps.recv && cond tagged s.caps.tagged s.caps.msg
+may_receive s tagged = has s.caps cap.Recv && cond tagged (has s.caps cap.Tagged) (has s.caps cap.Msg)
 
 -- a multi-receive's least free space is above 0 and at most its length
 abbrev pub least_is_wrong : Posting → Bool

@@ -6,6 +6,8 @@
 --     going_out t o tx, holding t held tx      the operation goes out for t; these operations are held for t
 use Rattle.std.specs.Prelude.{◌≡◌, ℕ, ◌+◌, ◌%◌, Bool, true, false, not, ◌&&◌, ◌||◌, ◌==◌, nat_lt, nat_le, List, [], ◌∷◌, ◌++◌, length, Option, Some, None, slice_set, slice_index, is_none, find, map, unwrap_or, cond}
 use Rattle.std.specs.List.{list_any}
+use Rattle.fab_base.specs.declared.caps.Cap.TheVariants as cap
+use Rattle.fab_base.specs.Granted.{has}
 use Rattle.fab_base.specs.declared.limits.TheConstants.{INJECT_BYTES, MOST_OPERATIONS}
 use Rattle.fab_base.specs.declared.items.Kind.{Kind}
 use Rattle.fab_base.specs.declared.items.Kind.TheVariants.{Msg, TagMsg, WriteReq, ReadReq, AtomicReq, Reply}
@@ -64,17 +66,17 @@ first_fault (x ∷ xs) = cond x.0 (Some x.1) (first_fault xs)
 abbrev pub atom_is_granted : Caps → Option Atom → Bool
 atom_is_granted caps None = false
 atom_is_granted caps (Some atom) = elim atom.form [
-  | Base ↦ caps.write
-  | Fetch ↦ elim atom.op [ AtomicRead ↦ caps.read | _ ↦ caps.read && caps.write ]
-  | Compare ↦ caps.read && caps.write
+  | Base ↦ has caps cap.Write
+  | Fetch ↦ elim atom.op [ AtomicRead ↦ has caps cap.Read | _ ↦ has caps cap.Read && has caps cap.Write ]
+  | Compare ↦ has caps cap.Read && has caps cap.Write
 ]
 
 abbrev pub is_granted : Caps → Kind → Option Atom → Bool
-is_granted caps Msg atom = caps.msg && caps.send
-is_granted caps TagMsg atom = caps.tagged && caps.send
-is_granted caps ReadReq atom = caps.rma && caps.read
-is_granted caps WriteReq atom = caps.rma && caps.write
-is_granted caps AtomicReq atom = caps.atomic && atom_is_granted caps atom
+is_granted caps Msg atom = has caps cap.Msg && has caps cap.Send
+is_granted caps TagMsg atom = has caps cap.Tagged && has caps cap.Send
+is_granted caps ReadReq atom = has caps cap.Rma && has caps cap.Read
+is_granted caps WriteReq atom = has caps cap.Rma && has caps cap.Write
+is_granted caps AtomicReq atom = has caps cap.Atomic && atom_is_granted caps atom
 is_granted caps Reply atom = false
 
 -- the most bytes of a call, its operand, compare and buffer included, where a message may have so many

@@ -3,7 +3,7 @@ use Rattle.std.proofs.Common.{◌≡◌, ◌<◌, ◌+◌, ℕ, true, false, con
 use Rattle.std.specs.List.{list_any}
 use Rattle.std.proofs.lemmas.List.{append-nil, drop_more}
 use Rattle.std.proofs.Math.Bool.{and-false}
-use Rattle.fab_base.specs.Granted.{has}
+use Rattle.fab_base.specs.Granted.{has, all_caps}
 use Rattle.fab_base.specs.Offer.{is_offered}
 use Rattle.fab_base.specs.declared.caps.Api.TheVariants.{Two}
 use Rattle.fab_base.specs.declared.caps.Cap.{Cap}
@@ -11,7 +11,7 @@ use Rattle.fab_base.specs.declared.caps.Cap.TheVariants.{RmaEvent}
 use Rattle.fab_base.specs.declared.caps.Caps.{Caps}
 use Rattle.fab_grammar.specs.Capabilities.{cap_name}
 use Rattle.fab_grammar.specs.Settings.{asking}
-use Rattle.fab_model.specs.Negotiation.{all_caps, is_not_offered, grant, grant_of}
+use Rattle.fab_model.specs.Negotiation.{is_not_offered, grant, grant_of}
 use Rattle.fab_model.specs.Words.{Word, line_of, text_of}
 use Rattle.fab_outside.specs.Info.{cap_names, offer}
 use Rattle.fab_report.specs.Texts.{after_blanks}

@@ -3,7 +3,7 @@
 --     info_lines info        what is granted, line by line
 --     info_text caps         the text
 use Rattle.std.specs.Prelude.{ℕ, List, [], ◌∷◌, map, filter, codes, decimal}
-use Rattle.fab_base.specs.Granted.{has}
+use Rattle.fab_base.specs.Granted.{has, all_caps}
 use Rattle.fab_base.specs.declared.caps.Api.TheVariants.{Two}
 use Rattle.fab_base.specs.declared.caps.Cap.{Cap}
 use Rattle.fab_base.specs.declared.caps.Caps.{Caps}
@@ -11,7 +11,7 @@ use Rattle.fab_base.specs.declared.caps.Info.{Info}
 use Rattle.fab_base.specs.declared.limits.TheConstants.{FRAME_BYTES, INJECT_BYTES, INLINE_BYTES}
 use Rattle.fab_grammar.specs.Capabilities.{cap_name}
 use Rattle.fab_grammar.specs.Settings.{asking}
-use Rattle.fab_model.specs.Negotiation.{all_caps, granted_info}
+use Rattle.fab_model.specs.Negotiation.{granted_info}
 use Rattle.fab_model.specs.Words.{Word, text_of}
 
 -- none that may be asked for is refused; whoever asks for none is granted all that is on offer

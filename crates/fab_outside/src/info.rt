@@ -2,9 +2,10 @@
 //!
 //! Each function that appends to a text may have appended a part after want of memory.
 ghost use Rattle.std.specs.Prelude.{◌≡◌, ◌++◌, IfOk, OnOk, Some, string_bytes};
+ghost use Rattle.fab_base.specs.Granted.{all_caps};
 ghost use Rattle.fab_base.specs.declared.caps.Api.TheVariants.{Two};
 ghost use Rattle.fab_grammar.specs.Settings.{asking};
-ghost use Rattle.fab_model.specs.Negotiation.{all_caps, grant};
+ghost use Rattle.fab_model.specs.Negotiation.{grant};
 ghost use Rattle.fab_model.specs.Words.{line_of, text_of};
 ghost use Rattle.fab_outside.specs.Info.{bytes_line, cap_names, caps_line, info_lines, info_text, offer, sizes_line};
 ghost use Rattle.fab_report.specs.Texts.{after_blanks};

@@ -3,13 +3,14 @@ use Rattle.std.proofs.Common.{◌≡◌, ℕ, ◌≤◌, Bool, true, false, ◌|
 use Rattle.std.specs.Prelude.{Result, Ok, Err, IfOk}
 use Rattle.std.specs.List.{list_any}
 use Rattle.std.proofs.lemmas.Bool.{ltb-false}
+use Rattle.fab_base.specs.Granted.{all_caps}
 use Rattle.fab_base.specs.declared.script.Script.{Script}
 use Rattle.fab_base.specs.declared.caps.Api.{Api}
 use Rattle.fab_base.specs.declared.caps.Hints.{Hints}
 use Rattle.fab_base.specs.declared.caps.Info.{Info}
 use Rattle.fab_base.specs.declared.limits.Size.TheVariants as size
 use Rattle.fab_base.proofs.Bools.{or_false_left as left_false}
-use Rattle.fab_model.specs.Negotiation.{is_refused, granted_info, grant_of, grant, wish_is_refused, is_not_offered, all_caps}
+use Rattle.fab_model.specs.Negotiation.{is_refused, granted_info, grant_of, grant, wish_is_refused, is_not_offered}
 use Rattle.fab_model.specs.Negotiation.{size_of as granted_size}
 use Rattle.fab_grammar.specs.Grammar.{verdict}
 use Rattle.fab_grammar.specs.Settings.{hints_of}

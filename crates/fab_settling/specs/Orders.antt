@@ -8,6 +8,8 @@
 --     asks head                   the item asks for a reply
 --     lacks caps access           a right that a region would give was not granted
 use Rattle.std.specs.Prelude.{ℕ, Bool, true, false, ◌&&◌, ◌||◌, not, List, [], Some, None, is_none}
+use Rattle.fab_base.specs.declared.caps.Cap.TheVariants as cap
+use Rattle.fab_base.specs.Granted.{has}
 use Rattle.fab_base.specs.declared.caps.Caps.{Caps}
 use Rattle.fab_base.specs.declared.items.Access.{Access}
 use Rattle.fab_base.specs.declared.items.ItemHead.{ItemHead}
@@ -70,4 +72,4 @@ abbrev pub asks : ItemHead → Bool
 asks head = is_message head.kind && at_either head.ack || is_request head.kind
 
 abbrev pub lacks : Caps → Access → Bool
-lacks caps access = access.remote_read && not caps.remote_read || access.remote_write && not caps.remote_write
+lacks caps access = access.remote_read && not (has caps cap.RemoteRead) || access.remote_write && not (has caps cap.RemoteWrite)

@@ -13,9 +13,9 @@ pub fn may_send(caps: &Caps, tagged: bool) -> bool
     ensures { result ≡ is_granted caps.now (kind_of tagged) None }
 {
     if tagged {
-        caps.tagged && caps.send
+        caps.has(Cap::Tagged) && caps.has(Cap::Send)
     } else {
-        caps.msg && caps.send
+        caps.has(Cap::Msg) && caps.has(Cap::Send)
     }
 }
 
@@ -24,11 +24,11 @@ fn may_ask_atom(caps: &Caps, atom: Atom) -> bool
     ensures { result ≡ atom_is_granted caps.now (Some atom) }
 {
     match atom.form {
-        Form::Base => caps.write,
-        Form::Compare => caps.read && caps.write,
+        Form::Base => caps.has(Cap::Write),
+        Form::Compare => caps.has(Cap::Read) && caps.has(Cap::Write),
         Form::Fetch => match atom.op {
-            AtomicOp::AtomicRead => caps.read,
-            _ => caps.read && caps.write,
+            AtomicOp::AtomicRead => caps.has(Cap::Read),
+            _ => caps.has(Cap::Read) && caps.has(Cap::Write),
         },
     }
 }
@@ -38,9 +38,9 @@ pub fn may_ask(caps: &Caps, asked: Asked) -> bool
     ensures { result ≡ is_granted caps.now (kind_asked asked) (atom_asked asked) }
 {
     match asked {
-        Asked::Read => caps.rma && caps.read,
-        Asked::Write => caps.rma && caps.write,
-        Asked::Atomic(atom) => caps.atomic && may_ask_atom(caps, atom),
+        Asked::Read => caps.has(Cap::Rma) && caps.has(Cap::Read),
+        Asked::Write => caps.has(Cap::Rma) && caps.has(Cap::Write),
+        Asked::Atomic(atom) => caps.has(Cap::Atomic) && may_ask_atom(caps, atom),
     }
 }
 
@@ -48,5 +48,5 @@ pub fn may_ask(caps: &Caps, asked: Asked) -> bool
 pub fn lacks(caps: &Caps, access: Access) -> bool
     ensures { result ≡ lacks caps.now access }
 {
-    access.remote_read && !caps.remote_read || access.remote_write && !caps.remote_write
+    access.remote_read && !caps.has(Cap::RemoteRead) || access.remote_write && !caps.has(Cap::RemoteWrite)
 }

@@ -6,6 +6,7 @@ use Rattle.std.specs.Option.{IfSome}
 use Rattle.std.proofs.lemmas.Bool.Decides.{nat_tests}
 use Rattle.std.proofs.lemmas.List.{append-nil, length-map}
 use Rattle.std.proofs.lemmas.List.FromFn.{length-map-range_with_len}
+use Rattle.fab_base.specs.Granted.{all_caps}
 use Rattle.fab_base.specs.Offer.{limits, most_peers}
 use Rattle.fab_base.specs.declared.caps.Api.{Api}
 use Rattle.fab_base.specs.declared.caps.Api.TheVariants.{One, Two}
@@ -19,7 +20,7 @@ use Rattle.fab_base.specs.declared.script.LineOp.{LineOp}
 use Rattle.fab_base.specs.declared.script.Payload.{Payload}
 use Rattle.fab_base.specs.declared.script.Script.{Script}
 use Rattle.fab_base.specs.declared.status.Why.TheVariants as why
-use Rattle.fab_model.specs.Negotiation.{all_caps, has_any, no_hints, grant}
+use Rattle.fab_model.specs.Negotiation.{has_any, no_hints, grant}
 use Rattle.fab_words.specs.declared.misread.Misread.{Misread}
 use Rattle.fab_words.specs.declared.misread.Misread.TheVariants.{Limit}
 use Rattle.fab_words.specs.Misreads.{map_ok}

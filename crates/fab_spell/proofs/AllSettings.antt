@@ -5,13 +5,14 @@ use Rattle.std.specs.List.{list_any}
 use Rattle.std.specs.Option.{IfSome}
 use Rattle.std.proofs.lemmas.Bool.Decides.{nat_tests}
 use Rattle.std.proofs.lemmas.List.{append-nil, map-append}
+use Rattle.fab_base.specs.Granted.{all_caps}
 use Rattle.fab_base.specs.declared.caps.Api.{Api}
 use Rattle.fab_base.specs.declared.caps.Caps.{Caps}
 use Rattle.fab_base.specs.declared.limits.Size.{Size}
 use Rattle.fab_base.specs.declared.limits.Size.TheVariants as size
 use Rattle.fab_base.specs.declared.script.Payload.{Payload}
 use Rattle.fab_base.proofs.Numbers.{eqb_other}
-use Rattle.fab_model.specs.Negotiation.{all_caps, has_any}
+use Rattle.fab_model.specs.Negotiation.{has_any}
 use Rattle.fab_words.specs.Words.{first_of}
 use Rattle.fab_grammar.specs.declared.settings.Setting.{Setting}
 use Rattle.fab_grammar.specs.declared.settings.Setting.TheVariants.{Peers, Wish, Capabilities, Selective, File}

@@ -1,11 +1,11 @@
 -- The names of capabilities read as the capabilities again.
 use Rattle.std.proofs.Common.{◌≡◌, ◌≢◌, ℕ, ◌<◌, Bool, true, false, cond, ◌||◌, List, [], ◌∷◌, map, filter, length, Option, Some, None, Result, Ok, Err, sym, ap, ◌∙◌, refl, arith, true≢false}
 use Rattle.std.specs.List.{list_all, slice_split, join_with_byte}
-use Rattle.fab_base.specs.Granted.{has, with_cap}
+use Rattle.fab_base.specs.Granted.{has, with_cap, all_caps}
 use Rattle.fab_base.specs.declared.caps.Cap.{Cap}
 use Rattle.fab_base.specs.declared.caps.Cap.TheVariants as cap
 use Rattle.fab_base.specs.declared.caps.Caps.{Caps}
-use Rattle.fab_model.specs.Negotiation.{all_caps, no_hints}
+use Rattle.fab_model.specs.Negotiation.{no_hints}
 use Rattle.fab_words.specs.declared.misread.Misread.{Misread}
 use Rattle.fab_words.specs.declared.misread.Misread.TheVariants.{Words}
 use Rattle.fab_words.specs.Written.{is_word}
@@ -44,22 +44,22 @@ good_name cap.LocalComm = record { named = refl; lacks = refl; word = refl }
 
 -- one capability more, where it is said
 with_bit : Bool → Cap → Caps → Caps
-with_bit b cap.Msg caps = record caps { msg = b || caps.msg }
-with_bit b cap.Tagged caps = record caps { tagged = b || caps.tagged }
-with_bit b cap.Rma caps = record caps { rma = b || caps.rma }
-with_bit b cap.Atomic caps = record caps { atomic = b || caps.atomic }
-with_bit b cap.DirectedRecv caps = record caps { directed_recv = b || caps.directed_recv }
-with_bit b cap.Send caps = record caps { send = b || caps.send }
-with_bit b cap.Recv caps = record caps { recv = b || caps.recv }
-with_bit b cap.Read caps = record caps { read = b || caps.read }
-with_bit b cap.Write caps = record caps { write = b || caps.write }
-with_bit b cap.RemoteRead caps = record caps { remote_read = b || caps.remote_read }
-with_bit b cap.RemoteWrite caps = record caps { remote_write = b || caps.remote_write }
-with_bit b cap.MultiRecv caps = record caps { multi_recv = b || caps.multi_recv }
-with_bit b cap.Source caps = record caps { source = b || caps.source }
-with_bit b cap.RmaEvent caps = record caps { rma_event = b || caps.rma_event }
-with_bit b cap.Fence caps = record caps { fence = b || caps.fence }
-with_bit b cap.LocalComm caps = record caps { local_comm = b || caps.local_comm }
+with_bit b cap.Msg caps = record caps { msg = b || has caps cap.Msg }
+with_bit b cap.Tagged caps = record caps { tagged = b || has caps cap.Tagged }
+with_bit b cap.Rma caps = record caps { rma = b || has caps cap.Rma }
+with_bit b cap.Atomic caps = record caps { atomic = b || has caps cap.Atomic }
+with_bit b cap.DirectedRecv caps = record caps { directed_recv = b || has caps cap.DirectedRecv }
+with_bit b cap.Send caps = record caps { send = b || has caps cap.Send }
+with_bit b cap.Recv caps = record caps { recv = b || has caps cap.Recv }
+with_bit b cap.Read caps = record caps { read = b || has caps cap.Read }
+with_bit b cap.Write caps = record caps { write = b || has caps cap.Write }
+with_bit b cap.RemoteRead caps = record caps { remote_read = b || has caps cap.RemoteRead }
+with_bit b cap.RemoteWrite caps = record caps { remote_write = b || has caps cap.RemoteWrite }
+with_bit b cap.MultiRecv caps = record caps { multi_recv = b || has caps cap.MultiRecv }
+with_bit b cap.Source caps = record caps { source = b || has caps cap.Source }
+with_bit b cap.RmaEvent caps = record caps { rma_event = b || has caps cap.RmaEvent }
+with_bit b cap.Fence caps = record caps { fence = b || has caps cap.Fence }
+with_bit b cap.LocalComm caps = record caps { local_comm = b || has caps cap.LocalComm }
 
 with_bit_true : (cap : Cap) (caps : Caps) → with_bit true cap caps ≡ with_cap cap caps
 unfolding with_bit
@@ -119,22 +119,22 @@ with_kept p caps (c ∷ cs) = by (p c) (λ before. with_kept p before cs)
 all_bits : (caps : Caps) → with_bits (has caps) no_hints.caps all_caps ≡ caps
 unfolding with_bit
 all_bits caps = λ i. record {
-  msg = or_none caps.msg i;
-  tagged = or_none caps.tagged i;
-  rma = or_none caps.rma i;
-  atomic = or_none caps.atomic i;
-  directed_recv = or_none caps.directed_recv i;
-  send = or_none caps.send i;
-  recv = or_none caps.recv i;
-  read = or_none caps.read i;
-  write = or_none caps.write i;
-  remote_read = or_none caps.remote_read i;
-  remote_write = or_none caps.remote_write i;
-  multi_recv = or_none caps.multi_recv i;
-  source = or_none caps.source i;
-  rma_event = or_none caps.rma_event i;
-  fence = or_none caps.fence i;
-  local_comm = or_none caps.local_comm i;
+  msg = or_none (has caps cap.Msg) i;
+  tagged = or_none (has caps cap.Tagged) i;
+  rma = or_none (has caps cap.Rma) i;
+  atomic = or_none (has caps cap.Atomic) i;
+  directed_recv = or_none (has caps cap.DirectedRecv) i;
+  send = or_none (has caps cap.Send) i;
+  recv = or_none (has caps cap.Recv) i;
+  read = or_none (has caps cap.Read) i;
+  write = or_none (has caps cap.Write) i;
+  remote_read = or_none (has caps cap.RemoteRead) i;
+  remote_write = or_none (has caps cap.RemoteWrite) i;
+  multi_recv = or_none (has caps cap.MultiRecv) i;
+  source = or_none (has caps cap.Source) i;
+  rma_event = or_none (has caps cap.RmaEvent) i;
+  fence = or_none (has caps cap.Fence) i;
+  local_comm = or_none (has caps cap.LocalComm) i;
 }
 
 -- at least one name was read

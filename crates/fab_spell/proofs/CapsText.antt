@@ -3,10 +3,9 @@ use Rattle.std.proofs.Common.{◌≡◌, ℕ, ◌+◌, ◌<◌, ◌≤◌, true,
 use Rattle.std.specs.List.{join_with_byte}
 use Rattle.std.proofs.lemmas.List.{drop_more}
 use Rattle.std.proofs.Math.ListN.{drop_of_length-le}
-use Rattle.fab_base.specs.Granted.{has}
+use Rattle.fab_base.specs.Granted.{has, all_caps}
 use Rattle.fab_base.specs.declared.caps.Cap.{Cap}
 use Rattle.fab_base.specs.declared.caps.Caps.{Caps}
-use Rattle.fab_model.specs.Negotiation.{all_caps}
 use Rattle.fab_grammar.specs.Capabilities.{cap_name}
 use Rattle.fab_spell.specs.Headings.{caps_word}
 use Rattle.fab_spell.proofs.Commas.{after_separator, word_added, none_added}

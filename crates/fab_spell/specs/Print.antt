@@ -7,6 +7,7 @@
 --     unnumbered script       the script without the numbers of its lines
 --     IsSame script result    what is read is this script, up to the numbers of its lines
 use Rattle.std.specs.Prelude.{◌≡◌, ℕ, ◌+◌, Bool, if◌then◌else◌, List, [], ◌∷◌, ◌++◌, map, codes, decimal, Option, Some, None, unwrap_or, Result, Ok, Err}
+use Rattle.fab_base.specs.Granted.{all_caps}
 use Rattle.fab_base.specs.declared.caps.Caps.{Caps}
 use Rattle.fab_base.specs.declared.caps.Hints.{Hints}
 use Rattle.fab_base.specs.declared.limits.Size.{Size}
@@ -15,7 +16,7 @@ use Rattle.fab_base.specs.declared.script.Conf.{Conf}
 use Rattle.fab_base.specs.declared.script.Line.{Line}
 use Rattle.fab_base.specs.declared.script.Payload.{Payload}
 use Rattle.fab_base.specs.declared.script.Script.{Script}
-use Rattle.fab_model.specs.Negotiation.{all_caps, has_any, no_hints}
+use Rattle.fab_model.specs.Negotiation.{has_any, no_hints}
 use Rattle.fab_model.specs.Words.{text_of}
 use Rattle.fab_grammar.specs.declared.items.Item.{Item}
 use Rattle.fab_grammar.specs.declared.items.Item.TheVariants.{Peer, Does}

@@ -6,6 +6,8 @@ use Rattle.std.proofs.lemmas.List.Folds.{list_all-append, list_all-map}
 use Rattle.std.proofs.lemmas.List.{length-map}
 use Rattle.std.specs.List.{list_all}
 use Rattle.std.specs.Prelude.{filter_map, nat_lt, not}
+use Rattle.fab_base.specs.declared.caps.Cap.TheVariants as cap
+use Rattle.fab_base.specs.Granted.{has}
 use Rattle.fab_base.specs.declared.script.Bound.{Bound}
 use Rattle.fab_base.specs.declared.script.Conf.{Conf}
 use Rattle.fab_base.specs.declared.script.Line.{Line}
@@ -41,7 +43,7 @@ all_upto test zero each = refl
 all_upto test (suc n) each =
     list_all-append test (upto n) (n ∷ []) ∙ and_from _ _ (all_upto test n (λ p lt. each p (omega (arith, lt)))) (and_from _ _ (each n (omega arith)) refl)
 
-pub settled_of : (bound : Bound) (script : ℕ → List LineOp) → bound.script.conf.info.caps.directed_recv ≡ true → bound.script.conf.selective ≡ false
+pub settled_of : (bound : Bound) (script : ℕ → List LineOp) → has bound.script.conf.info.caps cap.DirectedRecv ≡ true → bound.script.conf.selective ≡ false
     → ((p : ℕ) → p < bound.script.conf.peers → ops (lines_of bound p) ≡ script p) → ((p : ℕ) → p < bound.script.conf.peers → Good bound.script.conf (script p))
     → is_settled bound ≡ true
 settled_of bound script directed all are good = and_from _ _ (and_from _ _ directed (ap not all))

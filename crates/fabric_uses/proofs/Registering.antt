@@ -10,6 +10,8 @@ use Rattle.fabric.specs.Sending.{first_fault}
 use Rattle.fabric.specs.State.{Region, State}
 use Rattle.fabric.specs.Target.{is_keyed}
 use Rattle.fabric.specs.Words.{Access, Bytes, Done, LineResult, NoKey, NotSupported, Refused}
+use Rattle.fab_base.specs.declared.caps.Cap.TheVariants as cap
+use Rattle.fab_base.specs.Granted.{has}
 
 -- a key that is free finds the region that is put behind the others
 put_behind : (key : ℕ) (access : Access) (bytes : List ℕ) (regions : List Region) → is_some (find (is_keyed key) regions) ≡ false
@@ -31,7 +33,7 @@ accepted false false s after t e = (refl, sym (ap (λ (p : LineResult × State).
 pub registered : (s t : State) (key : ℕ) (access : Access) (bytes : List ℕ) → do_call s (Reg key access bytes) ≡ (Done, t) → option_map (λ (r : Region). r.bytes) (region_of t key) ≡ Some bytes
 unfolding do_call reg
 registered s t key access bytes e =
-    let told = accepted (access.remote_read && not s.caps.remote_read || access.remote_write && not s.caps.remote_write) (is_some (region_of s key)) s
+    let told = accepted (access.remote_read && not (has s.caps cap.RemoteRead) || access.remote_write && not (has s.caps cap.RemoteWrite)) (is_some (region_of s key)) s
     (record s { regions = s.regions ++ record { key = key; access = access; bytes = bytes } ∷ [] }) t e in
     ap (λ (u : State). option_map (λ (r : Region). r.bytes) (region_of u key)) told.1
     ∙ ap (λ (o : Option Region). option_map (λ (r : Region). r.bytes) o) (put_behind key access bytes s.regions told.0)

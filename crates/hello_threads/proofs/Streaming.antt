@@ -16,6 +16,8 @@ use Rattle.hello_threads.specs.declared.stream.TheConstants.{ROOM}
 use Rattle.hello_threads.specs.declared.stream.Both.{Both}
 use Rattle.hello_threads.specs.declared.stream.Told.{Told}
 use Rattle.hello_threads.specs.Stream.{AreBoth, IsAsk, Runs, Talks, line}
+use Rattle.fab_base.specs.declared.caps.Cap.TheVariants as cap
+use Rattle.fab_base.specs.Granted.{has}
 
 -- an entry that is not of a receive hands no message over
 pub no_message : (entry : Entry) → ((ctx source : ℕ) (tag imm : Option ℕ) (len : ℕ) (buf : List ℕ) → entry ≡ Received ctx source tag imm len buf → ⊥) → message_in (λ ctx. true) (Success entry) ≡ []
@@ -73,7 +75,7 @@ module _ {Home : Type 0} (other : ℕ) where
 
 -- both peers' runs, as their threads' functions say of them
 pub both_so :
-    {E Home : Type 0} (seen : E → Seen Home) (zero one : List (List ℕ)) (many few : ℕ) (all left : List E) (a b f h : E) (told_f told_h told_zero told_one : Told) → all ≡ a ∷ b ∷ [] → (seen a).held.state.caps.directed_recv ≡ true → left ≡ f ∷ h ∷ []
+    {E Home : Type 0} (seen : E → Seen Home) (zero one : List (List ℕ)) (many few : ℕ) (all left : List E) (a b f h : E) (told_f told_h told_zero told_one : Told) → all ≡ a ∷ b ∷ [] → has (seen a).held.state.caps cap.DirectedRecv ≡ true → left ≡ f ∷ h ∷ []
     → told_zero ≡ told_f → told_one ≡ told_h → few ≡ length one → many ≡ length zero → Runs 1 zero few (seen a) (seen f) told_f → Runs 0 one many (seen b) (seen h) told_h → AreBoth seen zero one all left told_zero told_one
 both_so seen zero one many few all left a b f h told_f told_h told_zero told_one opened directed leaves is_f is_h ones zeros runs_f runs_h = record {
   opened_zero = a;
@@ -88,7 +90,7 @@ both_so seen zero one many few all left a b f h told_f told_h told_zero told_one
 }
 
 pub both_if :
-    {E Home : Type 0} (seen : E → Seen Home) (zero one : List (List ℕ)) (many few : ℕ) (all : List E) (a b f h : E) (told_f told_h : Told) (r : Option (Both E)) → all ≡ a ∷ b ∷ [] → (seen a).held.state.caps.directed_recv ≡ true
+    {E Home : Type 0} (seen : E → Seen Home) (zero one : List (List ℕ)) (many few : ℕ) (all : List E) (a b f h : E) (told_f told_h : Told) (r : Option (Both E)) → all ≡ a ∷ b ∷ [] → has (seen a).held.state.caps cap.DirectedRecv ≡ true
     → IfSome r (λ (both : Both E). both.endpoints.items ≡ f ∷ h ∷ []) → IfSome r (λ (both : Both E). (both.zero ≡ told_f) × (both.one ≡ told_h)) → few ≡ length one → many ≡ length zero → Runs 1 zero few (seen a) (seen f) told_f → Runs 0 one many (seen b) (seen h) told_h
     → IfSome r (λ (both : Both E). AreBoth seen zero one all both.endpoints.items both.zero both.one)
 both_if seen zero one many few all a b f h told_f told_h None opened directed leaves told ones zeros runs_f runs_h = tt

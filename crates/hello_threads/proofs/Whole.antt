@@ -20,6 +20,8 @@ use Rattle.fabric.proofs.Lists.{in_front, mapped, never}
 use Rattle.fabric.proofs.Speakers.{hears, speakers_end, speakers_left}
 use Rattle.hello_threads.specs.declared.stream.Told.{Told}
 use Rattle.hello_threads.specs.Stream.{AreBoth, IsAsk, IsShort, Runs, Talks, line}
+use Rattle.fab_base.specs.declared.caps.Cap.TheVariants as cap
+use Rattle.fab_base.specs.Granted.{has}
 
 -- ---- lists
 
@@ -91,9 +93,9 @@ module _ (zero_texts one_texts : List (List ℕ)) (all left : List Endpoint) (to
     pub ends : endpoints_of (threads_by speakers) ≡ left
     ends = speakers_end info selective speakers opened_so ∙ sym both.leaves
 
-    is_directed : info.caps.directed_recv ≡ true
+    is_directed : has info.caps cap.DirectedRecv ≡ true
     unfolding ring_seen
-    is_directed = sym (ap (λ (x : Endpoint). x.held.state.caps.directed_recv) (opened_so.opened 0 both.opened_zero (omega arith))) ∙ both.directed
+    is_directed = sym (ap (λ (x : Endpoint). (has x.held.state.caps cap.DirectedRecv)) (opened_so.opened 0 both.opened_zero (omega arith))) ∙ both.directed
 
     module _ (law : LibraryHears) (run : IsLibraryRun (opened_by speakers) (threads_by speakers)) where
       one_way :

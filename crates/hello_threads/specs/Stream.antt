@@ -16,6 +16,8 @@ use Rattle.fabric.specs.Words.{Fault, Inject, Msg}
 use Rattle.hello_threads.specs.declared.stream.TheConstants.{ROOM}
 use Rattle.hello_threads.specs.declared.stream.Stream.{Stream}
 use Rattle.hello_threads.specs.declared.stream.Told.{Told}
+use Rattle.fab_base.specs.declared.caps.Cap.TheVariants as cap
+use Rattle.fab_base.specs.Granted.{has}
 
 -- no text is longer than a receive has room for
 abbrev pub IsShort : List ℕ → Type 0
@@ -71,6 +73,6 @@ pub record AreBoth {E Home : Type 0} (seen : E → Seen Home) (zero one : List (
   pub opened : all ≡ opened_zero ∷ opened_one ∷ []
   pub leaves : left ≡ left_zero ∷ left_one ∷ []
   -- receives name their sources
-  pub directed : (seen opened_zero).held.state.caps.directed_recv ≡ true
+  pub directed : has (seen opened_zero).held.state.caps cap.DirectedRecv ≡ true
   pub runs_zero : Runs 1 zero (length one) (seen opened_zero) (seen left_zero) told_zero
   pub runs_one : Runs 0 one (length zero) (seen opened_one) (seen left_one) told_one

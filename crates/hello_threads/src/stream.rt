@@ -7,6 +7,8 @@ ghost use Rattle.fabric.specs.Heard.{message_in};
 ghost use Rattle.fabric.specs.Speaking.{Comes, messages, reads_by};
 ghost use Rattle.fabric.specs.Words.{Success};
 ghost use Rattle.hello_threads.specs.Stream.{AreBoth, Runs, StreamKeeps, Talks};
+ghost use Rattle.fab_base.specs.declared.caps.Cap.TheVariants as cap;
+ghost use Rattle.fab_base.specs.Granted.{has};
 
 use fabric::{Buf, Calls, EndpointOver, Entry, Fault, Polled, again};
 use std::alloc::Global;
@@ -241,7 +243,7 @@ fn two<E: Calls + Drop>(
     endpoints: Vec<EndpointOver<E>>,
 ) -> Option<(EndpointOver<E>, EndpointOver<E>)>
     ensures are { IfSome result (λ both. endpoints.items ≡ both.0 ∷ both.1 ∷ []) }
-    ensures directed { IfSome result (λ both. (E.seen both.0).held.state.caps.directed_recv ≡ true) }
+    ensures directed { IfSome result (λ both. (has (E.seen both.0).held.state.caps cap.DirectedRecv) ≡ true) }
 {
     let mut endpoints = endpoints;
     let one = endpoints.pop()?;

@@ -17,6 +17,8 @@ use Rattle.ranks_heard.specs.declared.rank.Four.{Four}
 use Rattle.ranks_heard.specs.declared.rank.Line.{Line}
 use Rattle.ranks_heard.specs.declared.rank.Told.{Told}
 use Rattle.ranks_heard.specs.Ranks.{AreFour, IsAny, IsAsk, IsNamed, Runs, Talks, is_one, order_of}
+use Rattle.fab_base.specs.declared.caps.Cap.TheVariants as cap
+use Rattle.fab_base.specs.Granted.{has}
 
 -- an entry that is not of a receive hands no message over
 pub no_message : (entry : Entry) → ((ctx source : ℕ) (tag imm : Option ℕ) (len : ℕ) (buf : List ℕ) → entry ≡ Received ctx source tag imm len buf → ⊥) → message_in is_one (Success entry) ≡ []
@@ -83,7 +85,7 @@ module _ {Home : Type 0} where
 
 -- the runs of all ranks, as their threads' functions say of them
 pub four_if :
-    {E Home : Type 0} (seen : E → Seen Home) (one : List Line) (all : List E) (a b c d f g h k : E) (lines_zero lines_two lines_three : List Line) (told_f told_g told_h told_k : Told) (r : Option (Four E)) → all ≡ a ∷ b ∷ c ∷ d ∷ [] → (seen a).held.state.caps.directed_recv ≡ true
+    {E Home : Type 0} (seen : E → Seen Home) (one : List Line) (all : List E) (a b c d f g h k : E) (lines_zero lines_two lines_three : List Line) (told_f told_g told_h told_k : Told) (r : Option (Four E)) → all ≡ a ∷ b ∷ c ∷ d ∷ [] → has (seen a).held.state.caps cap.DirectedRecv ≡ true
     → IfSome r (λ (four : Four E). four.endpoints.items ≡ f ∷ g ∷ h ∷ k ∷ []) → IfSome r (λ (four : Four E). four.told ≡ told_f) → Runs lines_zero (seen a) (seen f) told_f → Runs one (seen b) (seen g) told_g → Runs lines_two (seen c) (seen h) told_h
     → Runs lines_three (seen d) (seen k) told_k → IfSome r (λ (four : Four E). AreFour seen one all four.endpoints.items four.told)
 four_if seen one all a b c d f g h k lines_zero lines_two lines_three told_f told_g told_h told_k None opened directed leaves told runs_f runs_g runs_h runs_k = tt

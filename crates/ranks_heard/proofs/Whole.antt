@@ -26,6 +26,8 @@ use Rattle.ranks_heard.specs.declared.rank.TheConstants.{ANY, ONE}
 use Rattle.ranks_heard.specs.declared.rank.Line.{Line}
 use Rattle.ranks_heard.specs.declared.rank.Told.{Told}
 use Rattle.ranks_heard.specs.Ranks.{AreFour, IsAny, IsAsk, IsNamed, IsShort, Runs, Talks, is_one, order_of, under}
+use Rattle.fab_base.specs.declared.caps.Cap.TheVariants as cap
+use Rattle.fab_base.specs.Granted.{has}
 
 -- ---- lists
 
@@ -134,9 +136,9 @@ module _ (one_lines : List Line) (all left : List Endpoint) (told : Told) (four 
     pub ends : endpoints_of (threads_by speakers) ≡ left
     ends = speakers_end info selective speakers opened_so ∙ sym four.leaves
 
-    is_directed : info.caps.directed_recv ≡ true
+    is_directed : has info.caps cap.DirectedRecv ≡ true
     unfolding ring_seen
-    is_directed = sym (ap (λ (x : Endpoint). x.held.state.caps.directed_recv) (opened_so.opened 0 four.opened_zero (omega arith))) ∙ four.directed
+    is_directed = sym (ap (λ (x : Endpoint). (has x.held.state.caps cap.DirectedRecv)) (opened_so.opened 0 four.opened_zero (omega arith))) ∙ four.directed
 
     pub heard_first : LibraryHears → IsLibraryRun (opened_by speakers) (threads_by speakers) → All IsShort one_lines → IsPrefixOf told.came.items (under ONE one_lines)
     heard_first law run short =

@@ -18,6 +18,8 @@ use Rattle.ranks_heard.specs.declared.rank.TheConstants.{ANY, ONE, ROOM}
 use Rattle.ranks_heard.specs.declared.rank.Line.{Line}
 use Rattle.ranks_heard.specs.declared.rank.Rank.{Rank}
 use Rattle.ranks_heard.specs.declared.rank.Told.{Told}
+use Rattle.fab_base.specs.declared.caps.Cap.TheVariants as cap
+use Rattle.fab_base.specs.Granted.{has}
 
 -- no text is longer than a receive has room for
 abbrev pub IsShort : Line → Type 0
@@ -99,7 +101,7 @@ pub record AreFour {E Home : Type 0} (seen : E → Seen Home) (one : List Line) 
   pub opened : all ≡ opened_zero ∷ opened_one ∷ opened_two ∷ opened_three ∷ []
   pub leaves : left ≡ left_zero ∷ left_one ∷ left_two ∷ left_three ∷ []
   -- receives name their sources
-  pub directed : (seen opened_zero).held.state.caps.directed_recv ≡ true
+  pub directed : has (seen opened_zero).held.state.caps cap.DirectedRecv ≡ true
   -- what ranks 0, 2 and 3 are given to tell, and what ranks 1, 2 and 3 are told
   pub zero : List Line
   pub two : List Line

@@ -6,6 +6,8 @@ ghost use Rattle.fabric.specs.Heard.{message_in};
 ghost use Rattle.fabric.specs.Speaking.{Comes, messages, reads_by};
 ghost use Rattle.fabric.specs.Words.{Success};
 ghost use Rattle.ranks_heard.specs.Ranks.{AreFour, RankKeeps, Runs, Talks, is_one, of_one};
+ghost use Rattle.fab_base.specs.declared.caps.Cap.TheVariants as cap;
+ghost use Rattle.fab_base.specs.Granted.{has};
 
 use fabric::{Buf, Calls, EndpointOver, Entry, Fault, Polled};
 use std::alloc::Global;
@@ -314,7 +316,7 @@ fn ranks_of<E: Calls + Drop>(
     ),
 >
     ensures are { IfSome result (λ all. endpoints.items ≡ all.0.0 ∷ all.0.1 ∷ all.1.0 ∷ all.1.1 ∷ []) }
-    ensures directed { IfSome result (λ all. (E.seen all.0.0).held.state.caps.directed_recv ≡ true) }
+    ensures directed { IfSome result (λ all. (has (E.seen all.0.0).held.state.caps cap.DirectedRecv) ≡ true) }
 {
     let mut endpoints = endpoints;
     let three = endpoints.pop()?;

@@ -5,6 +5,8 @@ use Rattle.std.specs.Prelude.{find, ◌-◌, ◌==◌, slice_index}
 use Rattle.std.specs.List.{list_any}
 use Rattle.std.proofs.lemmas.Bool.{and_parts}
 use Rattle.std.proofs.lemmas.List.{length-map}
+use Rattle.fab_base.specs.declared.caps.Cap.TheVariants as cap
+use Rattle.fab_base.specs.Granted.{has}
 use Rattle.fab_base.specs.declared.items.Item.{Item}
 use Rattle.fab_base.specs.declared.items.ItemHead.{ItemHead}
 use Rattle.fab_base.specs.declared.items.Kind.{Kind}
@@ -265,7 +267,7 @@ data_adds Done source head s = kind head.kind
 data_adds outcome source head s = adds_less 0 1 s s (omega arith) (adds_none s)
 
 event_adds : (outcome : Outcome) (head : ItemHead) (s : State) → Adds 0 s (remote_event outcome head s)
-event_adds Done head s = go s.caps.rma_event
+event_adds Done head s = go (has s.caps cap.RmaEvent)
   where
     go : (b : Bool) → Adds 0 s (let u : State = elim b [ true ↦ count (remote_class head) true s | false ↦ s ] in u)
     go true = counted_adds (remote_class head) true s

@@ -1,8 +1,7 @@
 use Rattle.std.proofs.Common.{◌≡◌, ◌+◌, ◌++◌, true, false, drop, get_or, string_bytes, sym, ap, ◌∙◌}
-use Rattle.fab_base.specs.Granted.{has}
+use Rattle.fab_base.specs.Granted.{has, all_caps}
 use Rattle.fab_base.specs.declared.caps.Cap.TheVariants.{Msg}
 use Rattle.fab_grammar.specs.Capabilities.{cap_name}
-use Rattle.fab_model.specs.Negotiation.{all_caps}
 use Rattle.fab_outside.proofs.Offered.{names_left, cap_passed, cap_kept}
 use Rattle.fab_outside.proofs.info.add_names.Goals as goal
 use Rattle.fab_outside.proofs.info.add_names.Goals.{then-has+in_ok-push+in_ok-push_str, else-has}

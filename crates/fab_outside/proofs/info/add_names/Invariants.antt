@@ -1,5 +1,5 @@
 use Rattle.std.proofs.Common.{◌≡◌, ◌++◌, drop, string_bytes}
-use Rattle.fab_model.specs.Negotiation.{all_caps}
+use Rattle.fab_base.specs.Granted.{all_caps}
 use Rattle.fab_outside.proofs.Offered.{names_left}
 use Rattle.fab_outside.proofs.info.add_names.Given as goal
 

@@ -1,9 +1,8 @@
 use Rattle.std.proofs.Common.{rules, ◌≡◌, ◌+◌, ◌++◌, ◌∷◌, [], true, false, drop, get_or, string_bytes, sym, ap, subst, ◌∙◌, arith}
 use denote.Text.{Utf8}
 use denote.Shadow.{shadow}
-use Rattle.fab_base.specs.Granted.{has}
+use Rattle.fab_base.specs.Granted.{has, all_caps}
 use Rattle.fab_base.specs.declared.caps.Cap.TheVariants.{Msg}
-use Rattle.fab_model.specs.Negotiation.{all_caps}
 use Rattle.fab_grammar.specs.Capabilities.{cap_name}
 use Rattle.fab_spell.specs.Headings.{caps_word}
 use Rattle.fab_spell.proofs.CapsText.{text_left, caps_left, caps_done, cap_passed, cap_kept}

@@ -1,7 +1,7 @@
 use Rattle.std.proofs.Common.{◌≡◌, ◌++◌, drop, string_bytes}
 use denote.Text.{Utf8}
 use denote.Shadow.{shadow}
-use Rattle.fab_model.specs.Negotiation.{all_caps}
+use Rattle.fab_base.specs.Granted.{all_caps}
 use Rattle.fab_spell.specs.Headings.{caps_word}
 use Rattle.fab_spell.proofs.CapsText.{text_left}
 use Rattle.fab_spell.proofs.settings.add_caps.Given as goal
