@@ -9,7 +9,7 @@
 --     is_own op        a line on what is the peer's own
 use Rattle.std.specs.Prelude.{Bool, true, false}
 use Rattle.fab_base.specs.declared.script.LineOp.{LineOp}
-use Rattle.fab_base.specs.declared.script.LineOp.TheVariants.{Send, TSend, Inject, TInject, WInject, Write, Reg, Put, Atomic, Fetch, Compare, Recv, TRecv, MRecv, Take, Read, Peek, Claim, Discard, DropClaimed, Cancel, Close, Show, Insert, Remove, Wait, Count, Reach}
+use Rattle.fab_base.specs.declared.script.LineOp.TheVariants.{Inject, TInject, WInject, Write, Reg, Put, Atomic, Fetch, Compare, Recv, TRecv, MRecv, Take, Read, Peek, Claim, Discard, DropClaimed, Cancel, Close, Show, Insert, Remove, Wait, Count, Reach}
 pub use Rattle.fab_base.specs.Lines.{is_send}
 
 abbrev pub is_inject : LineOp → Bool
