@@ -11,10 +11,6 @@ err_map (Ok v) r is f p = search rules
 err_map (Err e) (Ok w) is f p = absurd (cc)
 err_map {P = P} (Err e) (Err d) is f p = f e (subst P (cc) p)
 
-pub refused_is : {T E : Type 0} (P : E → Type 0) (r : Result T E) (why : E) → r ≡ Err why → IfErr r P → P why
-refused_is P (Ok v) why is p = absurd (cc)
-refused_is P (Err e) why is p = subst P (cc) p
-
 pub err_both : {T E : Type 0} {P N Q : E → Type 0} (answer r : Result T E) → answer ≡ r → ((e : E) → N e → P e → Q e) → IfErr answer N → IfErr r P → IfErr answer Q
 err_both (Ok v) r is f n p = search rules
 err_both (Err e) (Ok w) is f n p = absurd (cc)

@@ -12,10 +12,10 @@ use Rattle.fab_face.specs.Acts.{Act, Did, Took, Posted, Drew as DrewOne, Had, Go
 use Rattle.fab_face.specs.Answers.{AllAre, IsShort, Receives, ReceivesNot}
 use Rattle.fab_face.proofs.Joining.{goes_append, draws_move}
 use Rattle.fab_face.proofs.Going.{drew_shorter}
-use Rattle.fab_app.proofs.Answering.{refused_is}
 use Rattle.fab_app.proofs.Chains.{goes_none}
 use Rattle.fab_app.specs.Cleared.{cleared}
 use Rattle.fab_app.specs.Late.{Drew, ReceivesLate, ReceivesLateNot, is_late}
+use Rattle.std.proofs.lemmas.Result.{IfErr-at_err}
 
 unexpected : Held → ℕ
 unexpected h = length h.state.rx.unexpected
@@ -93,4 +93,4 @@ module _ {Home : Type 0} where
       → Drew a new × (length new.held.state.rx.unexpected < length e.held.state.rx.unexpected)
   late_again call a e mid new answer drew is opened late not =
       let (n, was) = full_by answer late in
-      late_on call a e mid new n drew is opened (refused_is _ answer _ was not)
+      late_on call a e mid new n drew is opened (IfErr-at_err _ was not)

@@ -6,17 +6,15 @@ use Rattle.fab_base.specs.declared.faults.NoMemory.{NoMemory}
 use Rattle.fab_face.specs.Held.{Seen}
 use Rattle.fab_face.specs.Answers.{MayLack}
 use Rattle.fab_app.specs.declared.completions.Polled.{Polled}
-use Rattle.fab_app.specs.declared.moving.Next.{Next}
 use Rattle.fab_app.specs.declared.until.WaitFault.{WaitFault}
 use Rattle.fab_app.specs.declared.until.WaitFault.TheVariants.{ClockFailed, NoMemory as LacksMemory}
-use Rattle.fab_app.specs.Cleared.{cleared}
 use Rattle.fab_app.specs.Clocks.{Told, read_on}
 use Rattle.fab_app.specs.Polls.{Waits, has_come}
-use Rattle.fab_app.specs.Progresses.{Moves, Progresses}
+use Rattle.fab_app.specs.Progresses.{Progresses}
 use Rattle.fab_app.specs.Within.{Misses, MovesOnce, PollsWithin, Times}
 use Rattle.fab_app.specs.Until.{Early, HasCome, Late, MovesBy, MovesUntil, Timed, timed, Until, PollsUntil, Spins, SpinsUntil, ToldAs}
 use Rattle.fab_app.proofs.Chains.{then_more}
-use Rattle.fab_app.proofs.Counting.{moved_once, one_more}
+use Rattle.fab_app.proofs.Counting.{one_more}
 use Rattle.fab_app.proofs.Polling.{waits_after, waits_lack}
 
 pub not_passed : (moment reading : ℕ) (passed : Bool) → passed ≡ nat_le moment reading → passed ≡ false → reading < moment

@@ -18,7 +18,7 @@
 use Rattle.std.specs.Prelude.{◌≡◌, ℕ, ◌-◌, ◌*◌, ◌<◌, ◌≤◌, ◌⊎◌, max, Bool, true, false, List, [], ◌∷◌, All, length, replicate, filter, take, Option, Some, None, Result, Ok, Err}
 use Rattle.std.specs.List.{range_with_len}
 use Rattle.fab_base.specs.declared.faults.Fault.{Fault}
-use Rattle.fab_base.specs.declared.faults.Fault.TheVariants.{Again, MsgSize, NoMemory as LacksMemory}
+use Rattle.fab_base.specs.declared.faults.Fault.TheVariants.{MsgSize, NoMemory as LacksMemory}
 use Rattle.fab_base.specs.declared.items.Kind.TheVariants.{TagMsg}
 use Rattle.fab_base.specs.declared.peers.Level.TheVariants.{Inject}
 use Rattle.fab_model.specs.Calls.{Call, message}
@@ -31,6 +31,7 @@ use Rattle.fab_collectives.specs.Lengths.{AreWhole}
 use Rattle.fab_collectives.specs.Routes.{hears_in, load_in, message_of, rounds_in, source_in, target_in, tells_in, topology_of}
 use Rattle.fab_collectives.specs.declared.collective.Collective.{Collective}
 use Rattle.fab_collectives.specs.declared.collective.Work.{Work}
+pub use Rattle.fab_app.specs.Cleared.{is_again}
 
 abbrev pub between : (ℕ → Bool) → ℕ → ℕ → List ℕ
 between test a b = filter test (range_with_len a (b - a))
@@ -38,11 +39,6 @@ between test a b = filter test (range_with_len a (b - a))
 abbrev pub InTurn : {S : Type 0} → (ℕ → S → S → Type 0) → List ℕ → S → S → Type 0
 InTurn one [] old new = new ≡ old
 InTurn {S} one (k ∷ rounds) old new = (mid : S) × one k old mid × InTurn one rounds mid new
-
--- it may be made again later (FI_EAGAIN)
-abbrev pub is_again : Fault → Bool
-is_again (Again busy) = true
-is_again _ = false
 
 abbrev pub Passing : {S : Type 0} → (S → S → Fault → Type 0) → S → S → Type 0
 Passing not old new = (why : Fault) × (is_again why ≡ true) × not old new why

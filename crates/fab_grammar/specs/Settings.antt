@@ -23,7 +23,7 @@ use Rattle.fab_grammar.specs.declared.verbs.Verb.TheVariants as verb
 use Rattle.fab_grammar.specs.Capabilities.{caps_of}
 use Rattle.fab_words.specs.Misreads.{map_ok, ◌&◌}
 use Rattle.fab_words.specs.Words.{read_number, read_text}
-pub use Rattle.fab_grammar.specs.Lines.{number_line as peer_of}
+unfoldable pub use Rattle.fab_grammar.specs.Lines.{number_line as peer_of}
 
 -- a number from the least to the greatest
 abbrev pub between : Limits → Result ℕ Misread → Result ℕ Misread

@@ -12,9 +12,8 @@ use Rattle.fab_base.specs.declared.caps.Caps.{Caps}
 use Rattle.fab_grammar.specs.Capabilities.{cap_name}
 use Rattle.fab_grammar.specs.Settings.{asking}
 use Rattle.fab_model.specs.Negotiation.{is_not_offered, grant, grant_of}
-use Rattle.fab_model.specs.Words.{Word, line_of, text_of}
+use Rattle.fab_model.specs.Words.{Word, line_of, text_of, after_blanks}
 use Rattle.fab_outside.specs.Info.{cap_names, offer}
-use Rattle.fab_report.specs.Texts.{after_blanks}
 use Rattle.fab_report.proofs.Blanks.{part_more}
 
 -- what is still to be written of these capabilities

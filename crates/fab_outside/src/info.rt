@@ -6,9 +6,8 @@ ghost use Rattle.fab_base.specs.Granted.{all_caps};
 ghost use Rattle.fab_base.specs.declared.caps.Api.TheVariants.{Two};
 ghost use Rattle.fab_grammar.specs.Settings.{asking};
 ghost use Rattle.fab_model.specs.Negotiation.{grant};
-ghost use Rattle.fab_model.specs.Words.{line_of, text_of};
+ghost use Rattle.fab_model.specs.Words.{line_of, text_of, after_blanks};
 ghost use Rattle.fab_outside.specs.Info.{bytes_line, cap_names, caps_line, info_lines, info_text, offer, sizes_line};
-ghost use Rattle.fab_report.specs.Texts.{after_blanks};
 
 use fab_base::{Api, CAPS, Caps, FRAME_BYTES, INJECT_BYTES, INLINE_BYTES, Info, NoMemory};
 use fab_grammar::{asking, cap_name};

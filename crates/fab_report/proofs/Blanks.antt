@@ -1,9 +1,8 @@
 -- Words with a blank before each.
 use Rattle.std.proofs.Common.{◌≡◌, ℕ, List, [], ◌∷◌, ◌++◌, ◌≤◌, ◌⊎◌, inl, inr, length, drop, min, refl, sym, ap, ◌∙◌, append_assoc, codes, Option, Some, None, Result, Ok, Err, OnOk}
 use Rattle.std.proofs.lemmas.List.{append-nil}
-use Rattle.std.specs.List.{join_with_byte}
 use Rattle.std.specs.Prelude.{option_to_list}
-use Rattle.fab_model.specs.Words.{Word, line_of, text_of}
+use Rattle.fab_model.specs.Words.{Word, line_of, text_of, after_blanks}
 use Rattle.std.proofs.Math.ListN.{drop_of_length-le}
 use Rattle.fab_base.specs.declared.entries.Kept.{Kept}
 use Rattle.fab_base.specs.declared.script.Line.{Line}
@@ -11,19 +10,8 @@ use Rattle.fab_base.specs.declared.peers.LineResult.{LineResult}
 use Rattle.fab_base.proofs.Numbers.{min_within as either_within}
 use Rattle.fab_model.specs.Report.{kept_words, done_lines}
 use Rattle.fab_kept.specs.Places.{somes}
-use Rattle.fab_report.specs.Texts.{after_blanks, left_text}
-
-pub after_blanks-append : (xs ys : List Word) → after_blanks (xs ++ ys) ≡ after_blanks xs ++ after_blanks ys
-after_blanks-append [] ys = refl
-after_blanks-append (x ∷ xs) ys =
-    ap (λ text. 32 ∷ x ++ text) (after_blanks-append xs ys) ∙ sym (append_assoc (32 ∷ x) (after_blanks xs) (after_blanks ys))
-
-pub joined : (x : Word) (xs : List Word) → join_with_byte 32 (x ∷ xs) ≡ x ++ after_blanks xs
-joined x [] = sym (append-nil x)
-joined x (y ∷ ys) = ap (λ text. x ++ 32 ∷ text) (joined y ys)
-
-pub line_of-cons : (x : Word) (xs : List Word) → line_of (x ∷ xs) ≡ x ++ after_blanks xs ++ 10 ∷ []
-line_of-cons x xs = ap (λ text. text ++ 10 ∷ []) (joined x xs)
+use Rattle.fab_report.specs.Texts.{left_text}
+use Rattle.fab_model.proofs.Blanks.{after_blanks-append}
 
 pub text_of-append : (xs ys : List (List Word)) → text_of (xs ++ ys) ≡ text_of xs ++ text_of ys
 text_of-append [] ys = refl
@@ -45,12 +33,6 @@ words_more from now next xs ys wrote writes =
 pub words_last : {T E : Type 0} (r : Result T E) (from now next : List ℕ) (xs ys : List Word) → now ≡ from ++ after_blanks xs → OnOk r (next ≡ now ++ after_blanks ys) → OnOk r (next ≡ from ++ after_blanks (xs ++ ys))
 words_last (Ok x) from now next xs ys wrote writes = words_more from now next xs ys wrote writes
 words_last (Err e) from now next xs ys wrote writes = tt
-
--- a first word, the words after it, and the line's end
-pub line_done : (from begun now next : List ℕ) (x : Word) (xs : List Word) → begun ≡ from ++ x → now ≡ begun ++ after_blanks xs → next ≡ now ++ 10 ∷ [] → next ≡ from ++ line_of (x ∷ xs)
-line_done from begun now next x xs first words end =
-    end ∙ ap (λ text. text ++ 10 ∷ []) (words ∙ ap (λ text. text ++ after_blanks xs) first ∙ append_assoc from x (after_blanks xs))
-    ∙ append_assoc from (x ++ after_blanks xs) (10 ∷ []) ∙ ap (λ text. from ++ text) (sym (line_of-cons x xs))
 
 -- no line is done where there are no lines, or no results
 done_lines-none : (lines : List Line) (results : List LineResult) → (lines ≡ []) ⊎ (results ≡ []) → done_lines lines results ≡ []
@@ -81,5 +63,3 @@ pub part_last : {T E : Type 0} (r : Result T E) (from now next : List ℕ) (xs :
 part_last (Ok x) from now next xs y wrote writes =
     part_more from now next xs (y ∷ []) wrote (writes ∙ ap (λ text. now ++ text) (sym (append-nil (line_of y))))
 part_last (Err e) from now next xs y wrote writes = tt
-
-pub ruleset blanks = (after_blanks-append, append_assoc, append-nil)

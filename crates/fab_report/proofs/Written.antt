@@ -1,6 +1,6 @@
 -- The report of a lawful schedule tells this schedule to the strict reader.
 --     Written peers lines schedule      lines that are read back, of which those that begin with `trace` tell this schedule
-use Rattle.std.proofs.Common.{◌≡◌, ◌≢◌, ◌≤◌, ◌<◌, ◌+◌, ◌-◌, ◌/◌, ◌%◌, ◌^◌, ℕ, Bool, true, false, not, ◌&&◌, List, [], ◌∷◌, ◌++◌, map, All, length, take, drop, Option, Some, None, refl, sym, ap, subst, ◌∙◌, arith, append_assoc, append-nil, codes, decimal, eqb, slice_get, length-append}
+use Rattle.std.proofs.Common.{◌≡◌, ◌≢◌, ◌≤◌, ◌<◌, ◌+◌, ◌/◌, ◌%◌, ◌^◌, ℕ, Bool, true, false, not, ◌&&◌, List, [], ◌∷◌, ◌++◌, map, All, length, take, drop, Option, Some, None, refl, sym, ap, subst, ◌∙◌, arith, append_assoc, append-nil, codes, decimal, eqb, slice_get, length-append}
 use Rattle.std.specs.Prelude.{nat_lt}
 use Rattle.std.specs.List.{join_with_byte, list_all}
 use Rattle.std.proofs.lemmas.Bool.{and_parts, and_from, eq-eqb, ne_eqb, lt-ltb, ltb-true}
@@ -19,9 +19,9 @@ use Rattle.fab_model.specs.Laws.{named_peer, NamesBelow}
 use Rattle.fab_model.specs.Peers.{Actor}
 use Rattle.fab_model.specs.Replay.{Lawful, replayed, all_done}
 use Rattle.fab_model.specs.Report.{kept_words, done_lines, stuck_line, amount_line, pending_of, deferred_of, step_word, peer_lines, first_line, last_line, actor_lines, all_lines, report_lines, report_of, report, numbered}
-use Rattle.fab_model.specs.Words.{Word, read_decimal, pieces_at, onto_first, text_of}
+use Rattle.fab_model.specs.Words.{Word, read_decimal, pieces_at, text_of}
 use Rattle.fab_model.proofs.Names.{lawful_names, replayed_sound}
-use Rattle.fab_model.proofs.Pieces.{plain, readable, words_back as words-back}
+use Rattle.fab_model.proofs.Pieces.{readable, words_back as words-back, piece_before, line_lacks}
 use Rattle.fab_model.proofs.Plain.{other, decimal_digits, plain_decimal, plain_steps, other_line, other_numbered, others_done, others_stuck, others_left, others_amount}
 use Rattle.fab_model.proofs.Told.{read_push as read-push}
 use Rattle.fab_report.specs.Reading.{is_digit, is_numeral, names_peer, step_told, steps_told, steps_behind, begins_trace, lists_told, schedule_told}
@@ -105,28 +105,6 @@ steps-written peers (step ∷ steps) few below =
 
 -- ---- pieces
 
-abbrev lacks : ℕ → List ℕ → Bool
-lacks c bytes = list_all (λ b. not (eqb b c)) bytes
-
-piece-before : (c : ℕ) (xs ys : List ℕ) → lacks c xs ≡ true → pieces_at c (xs ++ c ∷ ys) ≡ xs ∷ pieces_at c ys
-piece-before c [] ys none = rw (pieces_at, eq-eqb c c refl) refl
-piece-before c (x ∷ xs) ys none = let b = and_parts _ _ none in rw (pieces_at, differs (eqb x c) b.0) (ap (onto_first x) (piece-before c xs ys b.1))
-
-plain-lacks : (c : ℕ) (word : Word) → c ≤ 32 → plain word ≡ true → lacks c word ≡ true
-plain-lacks c [] low p = refl
-plain-lacks c (b ∷ word) low p =
-    let parts = and_parts _ _ p in
-    let above : 32 < b = ltb-true 32 b parts.0 in
-    let no : eqb b c ≡ false = ne_eqb b c (λ e. omega arith) in
-    rw no (plain-lacks c word low parts.1)
-
-line-lacks : (word : Word) (words : List Word) → plain word ≡ true → list_all plain words ≡ true → lacks 10 (join_with_byte 32 (word ∷ words)) ≡ true
-line-lacks word [] p ps = plain-lacks 10 word (omega arith) p
-line-lacks word (next ∷ words) p ps =
-    let parts = and_parts _ _ ps in
-    list_all-append (λ b. not (eqb b 10)) word (32 ∷ join_with_byte 32 (next ∷ words))
-    ∙ and_from _ _ (plain-lacks 10 word (omega arith) p) (line-lacks next words parts.0 parts.1)
-
 text-pieces : (lines : List (List Word)) → list_all readable lines ≡ true → pieces_at 10 (text_of lines) ≡ map (join_with_byte 32) lines ++ [] ∷ []
 text-pieces [] r = refl
 text-pieces ([] ∷ lines) r = absurd (cc)
@@ -135,7 +113,7 @@ text-pieces ((word ∷ words) ∷ lines) r =
     let plains = and_parts _ _ parts.0 in
     let line = join_with_byte 32 (word ∷ words) in
     ap (pieces_at 10) (append_assoc line (10 ∷ []) (text_of lines))
-    ∙ piece-before 10 line (text_of lines) (line-lacks word words plains.0 plains.1)
+    ∙ piece_before 10 line (text_of lines) (line_lacks word words plains.0 plains.1)
     ∙ ap (λ ls. line ∷ ls) (text-pieces lines parts.1)
 
 -- ---- lines

@@ -6,10 +6,10 @@
 ghost use Rattle.std.specs.Prelude.{◌≡◌, ◌+◌, ◌++◌, ◌∷◌, [], ◌<◌, length, take, map, OnOk, Some, None, unwrap_or, option_to_list, string_bytes, decimal, codes};
 ghost use Rattle.std.specs.Option.{option_copied};
 ghost use Rattle.fab_base.specs.declared.entries.ErrKind.{ErrKind};
-ghost use Rattle.fab_model.specs.Words.{line_of, text_of, hex_digit, hex, hex_or_dash};
+ghost use Rattle.fab_model.specs.Words.{line_of, text_of, hex_digit, hex, hex_or_dash, after_blanks};
 ghost use Rattle.fab_model.specs.Report.{fault_name, verb_of, ctx_word, named, received_words, len_words, how_word, entry_words, placed, error_words, taken_words, kept_words, result_words, done_lines, stuck_line, amount_line, step_word, peer_lines, first_line, last_line};
 ghost use Rattle.fab_kept.specs.Places.{somes};
-ghost use Rattle.fab_report.specs.Texts.{after_blanks, left_text};
+ghost use Rattle.fab_report.specs.Texts.{left_text};
 
 use fab_base::{
     Buf, Entry, ErrEntry, ErrKind, Fault, Kept, Line, LineOp, LineResult, NoMemory, PeekHow, Step,
@@ -188,7 +188,7 @@ fn widened(n: Option<u32>) -> Option<u64>
 }
 
 /// A message that was received whole.
-#[tactic(auto, using(crate::proofs::Blanks::blanks))]
+#[tactic(auto, using(fab_model::proofs::Blanks::blanks))]
 fn add_received(
     out: &mut String,
     source: u32,
@@ -212,7 +212,7 @@ fn add_received(
 }
 
 /// A message that was received into its place `at` of a multi-receive.
-#[tactic(auto, using(crate::proofs::Blanks::blanks))]
+#[tactic(auto, using(fab_model::proofs::Blanks::blanks))]
 fn add_part(
     out: &mut String,
     source: u32,
@@ -243,7 +243,7 @@ fn name_of_peek(how: PeekHow) -> &'static str
 }
 
 /// A message that was looked at.
-#[tactic(auto, using(crate::proofs::Blanks::blanks))]
+#[tactic(auto, using(fab_model::proofs::Blanks::blanks))]
 fn add_peeked(
     out: &mut String,
     how: PeekHow,
@@ -284,7 +284,7 @@ fn add_remote_data(out: &mut String, source: u32, imm: u64) -> Result<(), NoMemo
 }
 
 /// A success, with the bytes that were kept of a part.
-#[tactic(auto, using(crate::proofs::Blanks::blanks))]
+#[tactic(auto, using(fab_model::proofs::Blanks::blanks))]
 fn add_success(out: &mut String, entry: &Entry, kept: &[u8]) -> Result<(), NoMemory>
     ensures { OnOk result (string_bytes out.new ≡ string_bytes out.old ++ after_blanks (entry_words entry.now kept.now)) }
 {
@@ -343,7 +343,7 @@ fn add_cut(out: &mut String, len: u32, olen: u32, bytes: &[u8]) -> Result<(), No
 }
 
 /// A message that was cut off.
-#[tactic(auto, using(crate::proofs::Blanks::blanks))]
+#[tactic(auto, using(fab_model::proofs::Blanks::blanks))]
 fn add_truncated(out: &mut String, error: &ErrEntry, kept: &[u8]) -> Result<(), NoMemory>
     ensures { OnOk result (string_bytes out.new ≡ string_bytes out.old ++ after_blanks (error_words ErrKind.Truncated error.now kept.now)) }
 {
@@ -466,7 +466,7 @@ fn add_left(out: &mut String, kept: &Kept) -> Result<(), NoMemory>
 }
 
 /// What stands at a place, if anything.
-#[tactic(auto, using(crate::proofs::Blanks::blanks))]
+#[tactic(auto, using(fab_model::proofs::Blanks::blanks))]
 fn add_place(out: &mut String, place: &Option<Kept>) -> Result<(), NoMemory>
     ensures { OnOk result (string_bytes out.new ≡ string_bytes out.old ++ left_text (option_to_list place.now)) }
 {

@@ -9,12 +9,8 @@
 --     is_own op        a line on what is the peer's own
 use Rattle.std.specs.Prelude.{Bool, true, false}
 use Rattle.fab_base.specs.declared.script.LineOp.{LineOp}
-use Rattle.fab_base.specs.declared.script.LineOp.TheVariants.{Send, TSend, Inject, TInject, WInject, Write, Reg, Put, Atomic, Fetch, Compare, Recv, TRecv, MRecv, Take, Read, Peek, Claim, Discard, DropClaimed, Cancel, Close, Show, Insert, Remove, Wait, Count, Reach}
-
-abbrev pub is_send : LineOp → Bool
-is_send (Send ctx dest bytes imm level completion fence) = true
-is_send (TSend ctx dest tag bytes imm level completion fence) = true
-is_send op = false
+use Rattle.fab_base.specs.declared.script.LineOp.TheVariants.{Inject, TInject, WInject, Write, Reg, Put, Atomic, Fetch, Compare, Recv, TRecv, MRecv, Take, Read, Peek, Claim, Discard, DropClaimed, Cancel, Close, Show, Insert, Remove, Wait, Count, Reach}
+pub use Rattle.fab_base.specs.Lines.{is_send}
 
 abbrev pub is_inject : LineOp → Bool
 is_inject (Inject dest bytes imm) = true

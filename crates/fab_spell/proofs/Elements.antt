@@ -2,7 +2,7 @@
 use Rattle.std.proofs.Common.{◌≡◌, ℕ, zero, suc, ◌+◌, ◌-◌, ◌*◌, ◌/◌, ◌^◌, ◌<◌, ◌≤◌, inl, Bool, true, false, cond, ◌&&◌, leb, List, [], ◌∷◌, ◌++◌, map, length, take, drop, codes, decimal, Option, Some, None, Result, Ok, Err, sym, ap, subst, ◌∙◌, refl, arith, le-leb, leb-true, ne_eqb, length-append, length-drop, append_assoc, append-nil}
 use Rattle.std.proofs.lemmas.Bool.{and_from}
 use Rattle.std.specs.List.{list_all, slice_split, join_with_byte}
-use Rattle.std.proofs.Math.Nat.{pow-suc, mul-div_cancel}
+use Rattle.std.proofs.Math.Nat.{mul-div_cancel}
 use Rattle.std.proofs.Math.Seq.{take-append_seam, drop-append_seam}
 use Rattle.std.proofs.lemmas.Bool.Decides.{nat_tests}
 use Rattle.fab_base.specs.Elements.{element_size}
@@ -17,11 +17,12 @@ use Rattle.fab_grammar.proofs.PartLemmas.{and_true}
 use Rattle.fab_words.specs.Words.{begins_with, numeral_of, read_up_to}
 use Rattle.fab_words.specs.Written.{is_word}
 use Rattle.fab_grammar.specs.Capabilities.{is_comma}
-use Rattle.fab_grammar.specs.Atomics.{greatest, least, is_signed, negated, minus_value, plain_value, value_of, le_bytes, element, add_elements, read_elements, read_elements_count}
+use Rattle.fab_grammar.specs.Atomics.{greatest, least, is_signed, negated, minus_value, plain_value, value_of, element, add_elements, read_elements, read_elements_count}
 use Rattle.fab_spell.specs.Elements.{value_word, value_words, values_word, count_word}
 use Rattle.fab_spell.proofs.Decimals.{numeral_again, decimal_begins, read_up_to_decimal, read_up_to_small}
 use Rattle.fab_spell.proofs.Numbers.{is_word-decimal}
 use Rattle.fab_spell.proofs.Commas.{lacks_comma, prints, split_joined, joined_is_word, decimal_lacks}
+use Rattle.fab_model.proofs.Elements.{length-bytes_of, number_of-bytes_of}
 
 -- one element
 
@@ -141,24 +142,13 @@ value_fits num word n e = by (begins_with (codes "-") word && is_signed num) e
 
 -- bytes of numbers
 
-pub length-le_bytes : (k n : ℕ) → length (le_bytes k n) ≡ k
-length-le_bytes zero n = refl
-length-le_bytes (suc k) n = omega (arith, length-le_bytes k (n / 256))
-
-pub number_of-le_bytes : (k n : ℕ) → n < 256 ^ k → number_of (le_bytes k n) ≡ n
-number_of-le_bytes zero n h = omega arith
-number_of-le_bytes (suc k) n h =
-    let power = pow-suc 256 k in
-    let rest : n / 256 < 256 ^ k = omega arith in
-    omega (arith, number_of-le_bytes k (n / 256) rest)
-
 pub length-element : (num : Num) (n : ℕ) → length (element num n) ≡ element_size num
 unfolding element
-length-element num n = length-le_bytes (element_size num) n
+length-element num n = length-bytes_of (element_size num) n
 
 number_of-element : (num : Num) (n : ℕ) → n < span num → number_of (element num n) ≡ n
 unfolding element
-number_of-element num n h = number_of-le_bytes (element_size num) n h
+number_of-element num n h = number_of-bytes_of (element_size num) n h
 
 front : (xs ys : List ℕ) (k : ℕ) → length xs ≡ k → take k (xs ++ ys) ≡ xs
 front xs ys k e = ap (λ j. take j (xs ++ ys)) (sym e) ∙ take-append_seam xs ys

@@ -1,6 +1,5 @@
 pub mod Again
 pub mod AllSettings
-pub mod Blanks
 pub mod ByteWords
 pub mod CapsNames
 pub mod CapsText

@@ -7,7 +7,7 @@ use Rattle.fab_model.proofs.Plain.{decimal_digits, decimal_some}
 use Rattle.fab_words.specs.Misreads.{map_ok}
 use Rattle.fab_words.specs.Words.{read_index, read_source}
 use Rattle.fab_words.specs.Written.{is_word}
-use Rattle.fab_spell.specs.Spelling.{source_word}
+use Rattle.fab_model.specs.Report.{ctx_word as source_word}
 use Rattle.fab_spell.proofs.Decimals.{read_index_again}
 use Rattle.fab_spell.proofs.Said.{said_by}
 

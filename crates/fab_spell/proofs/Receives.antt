@@ -8,7 +8,8 @@ use Rattle.fab_grammar.specs.Sends.{for_multi, an_mrecv, mrecv_of}
 use Rattle.fab_grammar.specs.Options.{read_options}
 use Rattle.fab_words.specs.Misreads.{◌&◌, map_ok}
 use Rattle.fab_words.specs.Words.{read_number, read_source, read_up_to}
-use Rattle.fab_spell.specs.Spelling.{verb_for, args_for, source_word}
+use Rattle.fab_spell.specs.Spelling.{verb_for, args_for}
+use Rattle.fab_model.specs.Report.{ctx_word as source_word}
 use Rattle.fab_spell.proofs.Decimals.{read_number_again, read_up_to_again}
 use Rattle.fab_spell.proofs.Numbers.{is_word-decimal, is_word-source, source_again}
 use Rattle.fab_spell.proofs.Optional.{options_said, min_again, multi_options, are_words-min}

@@ -10,7 +10,8 @@ use Rattle.fab_words.specs.Written.{is_word}
 use Rattle.fab_grammar.specs.Rules.{Rules}
 use Rattle.fab_grammar.proofs.PartLemmas.{and_true}
 use Rattle.fab_grammar.proofs.RuleLemmas.{first_fails, rest_of}
-use Rattle.fab_spell.proofs.Written.{is_printed, is_text_byte}
+use Rattle.fab_spell.proofs.Written.{is_text_byte}
+use Rattle.fab_spell.proofs.Numbers.{is_printable as is_printed}
 
 -- no test holds
 abbrev pub AllFail : Rules → Type 0

@@ -1,5 +1,5 @@
 -- Rows as they are written: the lines are the rows again, and are read as they.
-use Rattle.std.proofs.Common.{◌≡◌, ℕ, ◌+◌, ◌-◌, ◌<◌, Bool, true, false, cond, not, ◌&&◌, ◌||◌, eqb, ltb, leb, List, [], ◌∷◌, ◌++◌, length, map, take, drop, get_or, None, sym, ap, ◌∙◌, refl, arith, append_assoc}
+use Rattle.std.proofs.Common.{◌≡◌, ℕ, ◌+◌, ◌-◌, ◌<◌, Bool, true, false, cond, not, ◌&&◌, ◌||◌, eqb, leb, List, [], ◌∷◌, ◌++◌, length, map, take, drop, get_or, None, sym, ap, ◌∙◌, refl, arith, append_assoc}
 use Rattle.std.specs.Prelude.{Ok}
 use Rattle.std.specs.List.{list_all, slice_split, join_with_byte, All, filter}
 use Rattle.std.proofs.lemmas.Bool.Decides.{nat_tests}
@@ -18,11 +18,10 @@ use Rattle.fab_grammar.specs.Grammar.{read_lines}
 use Rattle.fab_grammar.specs.Reads.{Reads}
 use Rattle.fab_grammar.specs.Rules.{word_rules, with_words, why_of, with_line}
 use Rattle.fab_grammar.proofs.PartLemmas.{and_true}
+use Rattle.fab_spell.proofs.Numbers.{is_printable as is_printed}
+use Rattle.fab_spell.proofs.ByteWords.{printable-word as word_printed}
 
 -- ---- the bytes of words and of lines
-abbrev pub is_printed : ℕ → Bool
-is_printed byte = ltb 32 byte && leb byte 126
-
 abbrev pub is_text_byte : ℕ → Bool
 is_text_byte byte = eqb byte 9 || (leb 32 byte && leb byte 126)
 
@@ -56,9 +55,6 @@ all_weaker p q weaker (x ∷ xs) all =
 -- ---- a row, split at the blanks
 word_filled : (word : List ℕ) → is_word word ≡ true → is_filled word ≡ true
 word_filled word e = (and_true (is_filled word) (list_all is_printed word) e).0
-
-word_printed : (word : List ℕ) → is_word word ≡ true → list_all is_printed word ≡ true
-word_printed word e = (and_true (is_filled word) (list_all is_printed word) e).1
 
 no_blank : (word : List ℕ) → is_word word ≡ true → All (λ x. is_blank x ≡ false) word
 no_blank word e = none_pass is_blank is_printed printed_no_blank word (word_printed word e)

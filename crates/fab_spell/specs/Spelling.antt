@@ -24,16 +24,9 @@ use Rattle.fab_grammar.specs.Options.{level_name}
 use Rattle.fab_grammar.specs.Verbs.{name_of}
 use Rattle.fab_model.specs.Words.{Word, hex}
 use Rattle.fab_spell.specs.Elements.{values_word, count_word}
-
-abbrev pub after_blanks : List Word → List ℕ
-after_blanks [] = []
-after_blanks (word ∷ words) = 32 ∷ word ++ after_blanks words
+use Rattle.fab_model.specs.Report.{ctx_word as source_word}
 
 -- ---- words
-abbrev pub source_word : Option ℕ → Word
-source_word None = codes "*"
-source_word (Some index) = decimal index
-
 abbrev pub digits_word : List ℕ → Word
 digits_word bytes = codes "hex:" ++ hex bytes
 

@@ -1,7 +1,7 @@
 //! How the line of an operation is written.
 ghost use Rattle.std.specs.Prelude.{◌≡◌, ◌++◌, OnOk, string_bytes};
-ghost use Rattle.fab_model.specs.Words.{line_of};
-ghost use Rattle.fab_spell.specs.Spelling.{after_blanks, verb_for, own_args, atomic_args, remote_args, look_args, receive_args, args_for, row_of};
+ghost use Rattle.fab_model.specs.Words.{line_of, after_blanks};
+ghost use Rattle.fab_spell.specs.Spelling.{verb_for, own_args, atomic_args, remote_args, look_args, receive_args, args_for, row_of};
 
 use crate::words::{
     add_atom, add_completion, add_context, add_data, add_fence, add_imm, add_message, add_min,
@@ -58,7 +58,7 @@ pub fn add_line(out: &mut String, op: &LineOp) -> Result<(), NoMemory>
 }
 
 /// The words after the verb: those of sends, and then those of the other kinds of lines.
-#[tactic(auto, using(crate::proofs::Blanks::blanks), unfolding(crate::specs::Spelling::args_for))]
+#[tactic(auto, using(fab_model::proofs::Blanks::blanks), unfolding(crate::specs::Spelling::args_for))]
 fn add_args(out: &mut String, op: &LineOp) -> Result<(), NoMemory>
     ensures { OnOk result (string_bytes out.new ≡ string_bytes out.old ++ after_blanks (args_for op.now)) }
 {
@@ -108,7 +108,7 @@ fn add_args(out: &mut String, op: &LineOp) -> Result<(), NoMemory>
 }
 
 /// The words of receives.
-#[tactic(auto, using(crate::proofs::Blanks::blanks))]
+#[tactic(auto, using(fab_model::proofs::Blanks::blanks))]
 fn add_receive_args(out: &mut String, op: &LineOp) -> Result<(), NoMemory>
     ensures { OnOk result (string_bytes out.new ≡ string_bytes out.old ++ after_blanks (receive_args op.now)) }
 {
@@ -145,7 +145,7 @@ fn add_receive_args(out: &mut String, op: &LineOp) -> Result<(), NoMemory>
 }
 
 /// The words of looks at messages, and of claimed messages.
-#[tactic(auto, using(crate::proofs::Blanks::blanks))]
+#[tactic(auto, using(fab_model::proofs::Blanks::blanks))]
 fn add_look_args(out: &mut String, op: &LineOp) -> Result<(), NoMemory>
     ensures { OnOk result (string_bytes out.new ≡ string_bytes out.old ++ after_blanks (look_args op.now)) }
 {
@@ -179,7 +179,7 @@ fn add_look_args(out: &mut String, op: &LineOp) -> Result<(), NoMemory>
 }
 
 /// The words of lines on another peer's regions.
-#[tactic(auto, using(crate::proofs::Blanks::blanks))]
+#[tactic(auto, using(fab_model::proofs::Blanks::blanks))]
 fn add_remote_args(out: &mut String, op: &LineOp) -> Result<(), NoMemory>
     ensures { OnOk result (string_bytes out.new ≡ string_bytes out.old ++ after_blanks (remote_args op.now)) }
 {
@@ -223,7 +223,7 @@ fn add_remote_args(out: &mut String, op: &LineOp) -> Result<(), NoMemory>
 }
 
 /// The words of atomics.
-#[tactic(auto, using(crate::proofs::Blanks::blanks))]
+#[tactic(auto, using(fab_model::proofs::Blanks::blanks))]
 fn add_atomic_args(out: &mut String, op: &LineOp) -> Result<(), NoMemory>
     ensures { OnOk result (string_bytes out.new ≡ string_bytes out.old ++ after_blanks (atomic_args op.now)) }
 {
@@ -279,7 +279,7 @@ fn add_atomic_args(out: &mut String, op: &LineOp) -> Result<(), NoMemory>
 }
 
 /// The words of lines on a peer's own regions, address vector, completions and counters.
-#[tactic(auto, using(crate::proofs::Blanks::blanks))]
+#[tactic(auto, using(fab_model::proofs::Blanks::blanks))]
 fn add_own_args(out: &mut String, op: &LineOp) -> Result<(), NoMemory>
     ensures { OnOk result (string_bytes out.new ≡ string_bytes out.old ++ after_blanks (own_args op.now)) }
 {

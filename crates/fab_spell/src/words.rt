@@ -1,7 +1,9 @@
 //! The words of a line, each with a blank before it.
 ghost use Rattle.std.specs.Prelude.{◌≡◌, ◌++◌, [], ◌∷◌, OnOk, string_bytes, codes, decimal, map};
 ghost use Rattle.fab_grammar.specs.Atomics.{atom_name, num_name};
-ghost use Rattle.fab_spell.specs.Spelling.{after_blanks, source_word, bytes_word, rights_word, operand_word, imm_words, level_words, completion_words, fence_words, min_words, message_words};
+ghost use Rattle.fab_spell.specs.Spelling.{bytes_word, rights_word, operand_word, imm_words, level_words, completion_words, fence_words, min_words, message_words};
+ghost use Rattle.fab_model.specs.Report.{ctx_word as source_word};
+ghost use Rattle.fab_model.specs.Words.{after_blanks};
 
 use crate::bytes::add_bytes;
 use crate::values::add_values;
@@ -154,7 +156,7 @@ pub(crate) fn add_fence(out: &mut String, fence: bool) -> Result<(), NoMemory>
 }
 
 /// The bytes of a send, and its optional words.
-#[tactic(auto, using(crate::proofs::Blanks::blanks))]
+#[tactic(auto, using(fab_model::proofs::Blanks::blanks))]
 pub(crate) fn add_message(
     out: &mut String,
     bytes: &BytesWord,

@@ -26,16 +26,13 @@ use Rattle.fab_workload_laws.proofs.Done.{Facts, all_answered, messages_none, me
 use Rattle.fab_workload_laws.proofs.Joined.{both_joined, both_lists, in_joined, joined_all, joined_each, joined_empty, joined_filter_map, joined_none, joined_same, joined_split}
 use Rattle.fab_workload_laws.proofs.Ops.{is_simple, lines_are, messages_of, ops, receive_from_op}
 use Rattle.fab_workload_laws.proofs.Rooms.{distinct_apart, picked, picked_above, picked_below, picked_distinct, quiet_append, quiet_joined, quiet_pair}
-use Rattle.fab_workload_laws.proofs.Settings.{conf, fits_it, payload_short, posted, posted_source, receive_accepted, receive_from_it, receive_posts, receive_sends_none, send_receives_none, send_sends, sent, wait_receives_none, wait_sends_none}
+use Rattle.fab_workload_laws.proofs.Settings.{conf, fits_it, posted, posted_source, receive_accepted, receive_from_it, receive_posts, receive_sends_none, send_receives_none, send_sends, sent, wait_receives_none, wait_sends_none, payload_sendable}
 use Rattle.fab_workload_laws.proofs.Settled.{Good, settled_of}
 use Rattle.fab_workload_laws.proofs.Whole.{is_call}
 
 module _ (size count window : ℕ) (file : List ℕ) (small : size ≤ 16_777_216) (few : count ≤ 10_000) (narrow : window ≤ 256) where
   abbrev payload : List ℕ
   payload = payload_of size file
-
-  short : length payload ≤ 16_777_216
-  short = omega (arith, payload_short size file, small)
 
   abbrev bound : Bound
   bound = bound_of (Bandwidth size count window) file
@@ -240,7 +237,7 @@ module _ (size count window : ℕ) (file : List ℕ) (small : size ≤ 16_777_21
       filter_map-append (receive_from_op (conf 2) 1) (joined (many w) (sent_lines w)) (receive (count + w) 1 (count + w) 4 ∷ wait (count + w) ∷ [])
       ∙ ap₂ (λ (xs ys : List Receive). xs ++ ys)
       (joined_filter_map (receive_from_op (conf 2) 1) (many w) (sent_lines w)
-      ∙ joined_empty (many w) _ (λ k. ap (λ o. cons_option o []) (send_receives_none 2 1 (base w + k) 1 (base w + k) (Hex payload) (omega arith) short)))
+      ∙ joined_empty (many w) _ (λ k. ap (λ o. cons_option o []) (send_receives_none 2 1 (base w + k) 1 (base w + k) (Hex payload) (omega arith) (payload_sendable size file small))))
       (ap (λ o. cons_option o (cons_option (receive_from_op (conf 2) 1 (wait (count + w))) [])) (receive_from_it 2 (count + w) 1 (count + w) 4 (omega arith) (omega arith))
       ∙ ap (λ o. ack_post w ∷ cons_option o []) (wait_receives_none 2 1 (count + w))))
 
@@ -315,7 +312,7 @@ module _ (size count window : ℕ) (file : List ℕ) (small : size ≤ 16_777_21
       let place : at + length (joined n (sent_lines w)) ≡ at + (n + 1 - 1) = omega (arith, joined_singles n (λ k. send (base w + k) 1 (base w + k) (Hex payload))) in
       messages_of_more (conf 2) 1 at (joined n (sent_lines w)) (sent_lines w (n + 1))
       ∙ ap₂ (λ (xs ys : List Message). xs ++ ys) (window_messages w at n)
-      (ap (λ o. cons_option o []) (send_sends 2 (base w + (n + 1)) 1 (base w + (n + 1)) (Hex payload) (at + length (joined n (sent_lines w))) (omega arith) short)
+      (ap (λ o. cons_option o []) (send_sends 2 (base w + (n + 1)) 1 (base w + (n + 1)) (Hex payload) (at + length (joined n (sent_lines w))) (omega arith) (payload_sendable size file small))
       ∙ ap (λ k. sent 2 (base w + (n + 1)) 1 (base w + (n + 1)) (Hex payload) k ∷ []) place)
 
   item_messages : (n : ℕ) → messages_of (conf 2) 1 0 (sendings n) ≡ joined n (λ w. joined (many w) (λ k. item w k ∷ []))

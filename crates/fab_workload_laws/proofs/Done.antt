@@ -22,7 +22,8 @@ use Rattle.fab_model.specs.Replay.{lines_of}
 use Rattle.fab_answer.specs.Answer.{answer, done, makes, next_number, result_of, waits_for}
 use Rattle.fab_answer.specs.Partners.{Message, fits, message_to, partner, partners, receive_at}
 use Rattle.fab_answer.specs.Settled.{are_distinct, is_accepted, own_ctx}
-use Rattle.fab_answer.proofs.Counts.{many, only_found}
+use Rattle.fab_answer.proofs.Counts.{only_found}
+use Rattle.fab_base.specs.Many.{many}
 use Rattle.fab_answer.proofs.Lists.{Both, In, all_of, never, same_number}
 use Rattle.fab_answer.proofs.answer.Lines.{makes_once, messages_step}
 use Rattle.fab_answer.proofs.peer.Refusals.{waits_op}

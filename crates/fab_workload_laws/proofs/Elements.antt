@@ -1,6 +1,6 @@
 -- An element of what an allreduce comes to is what the shares' elements at its place come to, in order of ranks.
 use Rattle.std.proofs.Common.{All, Bool, List, [], ap, ap₂, arith, drop, false, length, length-append, map, refl, suc, sym, take, true, zero, ℕ, ◌%◌, ◌*◌, ◌++◌, ◌+◌, ◌/◌, ◌<◌, ◌^◌, ◌∙◌, ◌∷◌, ◌≡◌, ◌≤◌}
-use Rattle.std.proofs.Math.Nat.{div-add-mod, div-lt_iff_lt-mul, mod-lt, min-le_left, pow-suc, suc-mul, zero-mul}
+use Rattle.std.proofs.Math.Nat.{mod-lt, min-le_left, pow-suc, suc-mul, zero-mul}
 use Rattle.std.proofs.Math.Seq.{drop-append_seam, take-append_seam}
 use Rattle.std.proofs.lemmas.List.Elements.{All-append, All-cons, All-drop, All-head, All-nil, All-tail, All-take}
 use Rattle.std.proofs.lemmas.List.{drop-drop, length-drop, length-take}
@@ -13,8 +13,9 @@ use Rattle.fab_base.specs.declared.items.AtomicOp.{AtomicOp}
 use Rattle.fab_base.specs.declared.items.Form.TheVariants.{Base}
 use Rattle.fab_base.specs.declared.items.Num.TheVariants.{I16, I32, I64, I8, U16, U32, U64, U8}
 use Rattle.fab_base.specs.declared.items.Num.{Num}
-use Rattle.fab_model.specs.Target.{below, bit, bytes_of, element, elements, number_of, span}
-use Rattle.fab_model.proofs.Elements.{length-bytes_of as bytes_long}
+use Rattle.fab_model.specs.Target.{below, bytes_of, element, elements, number_of, span}
+use Rattle.fab_base.specs.Many.{bit}
+use Rattle.fab_model.proofs.Elements.{length-bytes_of as bytes_long, number_of-bytes_of}
 use Rattle.fab_atomics.specs.Operands.{element_at}
 use Rattle.fab_atomics.proofs.Spans.{and_span, or_span, xor_span}
 use Rattle.fab_fold.specs.Shares.{fold, is_reducing, reduced_by}
@@ -35,12 +36,6 @@ number_below (suc k) (x ∷ xs) bytes le = omega (
   All-head (λ b. b < 256) x xs bytes,
   number_below k xs (All-tail (λ b. b < 256) x xs bytes) (omega (arith, le)),
 )
-
-number_back : (k n : ℕ) → n < 256 ^ k → number_of (bytes_of k n) ≡ n
-number_back zero n lt = omega (arith, lt)
-number_back (suc k) n lt =
-    let less : n / 256 < 256 ^ k = (div-lt_iff_lt-mul {k = 256} {x = n} {y = 256 ^ k} (omega arith)).1 (omega (arith, lt, pow-suc 256 k)) in
-    omega (arith, number_back k (n / 256) less, div-add-mod n 256)
 
 bytes_small : (k n : ℕ) → All (λ b. b < 256) (bytes_of k n)
 bytes_small zero n = All-nil (λ b. b < 256)
@@ -130,7 +125,7 @@ module _ (op : AtomicOp) (num : Num) (reducing : is_reducing op ≡ true) where
   first_is old share b c =
       let none : number_of (take (element_size num) []) ≡ 0 = ap number_of (take_none (element_size num)) in
       ap (λ n. number_of (bytes_of (element_size num) (element op num (number_of (take (element_size num) old)) (number_of (take (element_size num) share)) n))) none
-      ∙ number_back (element_size num) (element op num (number_of (take (element_size num) old)) (number_of (take (element_size num) share)) 0) (element_small op num _ _ reducing (small_at old b) (small_at share c))
+      ∙ number_of-bytes_of (element_size num) (element op num (number_of (take (element_size num) old)) (number_of (take (element_size num) share)) 0) (element_small op num _ _ reducing (small_at old b) (small_at share c))
 
   shifted : (xs : List ℕ) (i : ℕ) → element_at num (drop (element_size num) xs) i ≡ element_at num xs (suc i)
   shifted xs i = ap (λ ys. number_of (take (element_size num) ys)) (drop-drop (i * element_size num) (element_size num) xs ∙ ap (λ k. drop k xs) (let e : element_size num + i * element_size num ≡ suc i * element_size num = omega (arith, suc-mul i (element_size num)) in e))

@@ -20,15 +20,12 @@ use Rattle.fab_workload_laws.proofs.Done.{Facts, all_answered, messages_of_more,
 use Rattle.fab_workload_laws.proofs.Joined.{both_joined, in_joined, joined_all, joined_each, joined_filter_map, joined_none, joined_same, joined_split}
 use Rattle.fab_workload_laws.proofs.Ops.{is_simple, lines_are, messages_of, ops, receive_from_op}
 use Rattle.fab_workload_laws.proofs.Rooms.{distinct_apart, quiet_append, quiet_joined, quiet_pair}
-use Rattle.fab_workload_laws.proofs.Settings.{conf, fits_it, payload_short, posted, posted_source, receive_accepted, receive_from_it, receive_posts, receive_sends_none, send_receives_none, send_sends, sent, wait_receives_none, wait_sends_none}
+use Rattle.fab_workload_laws.proofs.Settings.{conf, fits_it, posted, posted_source, receive_accepted, receive_from_it, receive_posts, receive_sends_none, send_receives_none, send_sends, sent, wait_receives_none, wait_sends_none, payload_sendable}
 use Rattle.fab_workload_laws.proofs.Settled.{Good, settled_of}
 
 module _ (size count : ℕ) (file : List ℕ) (small : size ≤ 16_777_216) (few : count ≤ 10_000) where
   abbrev payload : List ℕ
   payload = payload_of size file
-
-  short : length payload ≤ 16_777_216
-  short = omega (arith, payload_short size file, small)
 
   abbrev bound : Bound
   bound = bound_of (Pingpong size count) file
@@ -106,7 +103,7 @@ module _ (size count : ℕ) (file : List ℕ) (small : size ≤ 16_777_216) (few
   ping_receives : (n : ℕ) → filter_map (receive_from_op (conf 2) 1) (pings n) ≡ joined n (λ i. posted 2 (2 * i) 1 i size ∷ [])
   ping_receives n = joined_filter_map (receive_from_op (conf 2) 1) n (ping size payload) ∙ joined_same n _ _ (λ i low high.
       ap (λ o. cons_option o (cons_option (receive_from_op (conf 2) 1 (receive (2 * i) 1 i size)) (cons_option (receive_from_op (conf 2) 1 (wait (2 * i))) [])))
-      (send_receives_none 2 1 (2 * i - 1) 1 i (Hex payload) (omega arith) short)
+      (send_receives_none 2 1 (2 * i - 1) 1 i (Hex payload) (omega arith) (payload_sendable size file small))
       ∙ ap (λ o. cons_option o (cons_option (receive_from_op (conf 2) 1 (wait (2 * i))) [])) (receive_from_it 2 (2 * i) 1 i size (omega arith) small)
       ∙ ap (λ o. posted 2 (2 * i) 1 i size ∷ cons_option o []) (wait_receives_none 2 1 (2 * i)))
 
@@ -116,7 +113,7 @@ module _ (size count : ℕ) (file : List ℕ) (small : size ≤ 16_777_216) (few
       ap (λ o. cons_option o (cons_option (receive_from_op (conf 2) 0 (wait (2 * i - 1))) (cons_option (receive_from_op (conf 2) 0 (send (2 * i) 0 i (Hex payload))) [])))
       (receive_from_it 2 (2 * i - 1) 0 i size (omega arith) small)
       ∙ ap (λ o. posted 2 (2 * i - 1) 0 i size ∷ cons_option o (cons_option (receive_from_op (conf 2) 0 (send (2 * i) 0 i (Hex payload))) [])) (wait_receives_none 2 0 (2 * i - 1))
-      ∙ ap (λ o. posted 2 (2 * i - 1) 0 i size ∷ cons_option o []) (send_receives_none 2 0 (2 * i) 0 i (Hex payload) (omega arith) short))
+      ∙ ap (λ o. posted 2 (2 * i - 1) 0 i size ∷ cons_option o []) (send_receives_none 2 0 (2 * i) 0 i (Hex payload) (omega arith) (payload_sendable size file small)))
 
   -- of peer 1 to peer 0
   pong_messages : (n : ℕ) → messages_of (conf 2) 0 0 (pongs n) ≡ joined n (λ i. sent 2 (2 * i) 0 i (Hex payload) (3 * i - 1) ∷ [])
@@ -130,7 +127,7 @@ module _ (size count : ℕ) (file : List ℕ) (small : size ≤ 16_777_216) (few
       ∙ ap₂ (λ xs ys. xs ++ ys) (pong_messages n)
       (ap (λ o. cons_option o later) (receive_sends_none 2 0 (2 * i - 1) 0 i size at (omega arith) small)
       ∙ ap (λ o. cons_option o (cons_option (message_to (conf 2) 0 (at + 1 + 1) (send (2 * i) 0 i (Hex payload))) [])) (wait_sends_none 2 0 (2 * i - 1) (at + 1))
-      ∙ ap (λ o. cons_option o []) (send_sends 2 (2 * i) 0 i (Hex payload) (at + 1 + 1) (omega arith) short)
+      ∙ ap (λ o. cons_option o []) (send_sends 2 (2 * i) 0 i (Hex payload) (at + 1 + 1) (omega arith) (payload_sendable size file small))
       ∙ ap (λ k. sent 2 (2 * i) 0 i (Hex payload) k ∷ []) place)
 
   -- of peer 0 to peer 1
@@ -143,7 +140,7 @@ module _ (size count : ℕ) (file : List ℕ) (small : size ≤ 16_777_216) (few
       let later = cons_option (message_to (conf 2) 1 (at + 1) (receive (2 * i) 1 i size)) (cons_option (message_to (conf 2) 1 (at + 1 + 1) (wait (2 * i))) []) in
       messages_of_more (conf 2) 1 0 (pings n) (ping size payload i)
       ∙ ap₂ (λ xs ys. xs ++ ys) (ping_messages n)
-      (ap (λ o. cons_option o later) (send_sends 2 (2 * i - 1) 1 i (Hex payload) at (omega arith) short)
+      (ap (λ o. cons_option o later) (send_sends 2 (2 * i - 1) 1 i (Hex payload) at (omega arith) (payload_sendable size file small))
       ∙ ap (λ o. sent 2 (2 * i - 1) 1 i (Hex payload) at ∷ cons_option o (cons_option (message_to (conf 2) 1 (at + 1 + 1) (wait (2 * i))) [])) (receive_sends_none 2 1 (2 * i) 1 i size (at + 1) (omega arith) small)
       ∙ ap (λ o. sent 2 (2 * i - 1) 1 i (Hex payload) at ∷ cons_option o []) (wait_sends_none 2 1 (2 * i) (at + 1 + 1))
       ∙ ap (λ k. sent 2 (2 * i - 1) 1 i (Hex payload) k ∷ []) place)

@@ -28,7 +28,8 @@ use Rattle.fab_answer.specs.Answer.{answered, comes, done, done_lines, entry_aft
 use Rattle.fab_answer.specs.Laws.{results_of}
 use Rattle.fab_answer.specs.Partners.{partner}
 use Rattle.fab_answer.specs.Settled.{are_distinct, contexts, is_accepted, own_ctx, refusal}
-use Rattle.fab_answer.proofs.Counts.{many, only_found}
+use Rattle.fab_answer.proofs.Counts.{only_found}
+use Rattle.fab_base.specs.Many.{many}
 use Rattle.fab_answer.proofs.Lists.{Both, Each, In, always, and_then_is, find_whole, in_back, in_front, in_map, never, only_is, same_number}
 use Rattle.fab_answer.proofs.answer.Lines.{makes_once}
 use Rattle.fab_workload_laws.proofs.Ops.{contexts_are, in_unmapped, ops}

@@ -22,8 +22,10 @@ use Rattle.fab_workloads.specs.declared.round.Round.{Round}
 use Rattle.fab_workloads.specs.Plan.{receive_ctx, receivers, round_ops, rounds_ops, send_ctx, senders}
 use Rattle.fab_fold.specs.Shares.{needs}
 use Rattle.fab_workloads.specs.Rounds.{share_of}
-use Rattle.fab_workload_laws.proofs.Ranks.{both_given, given, place}
-use Rattle.fab_workload_laws.proofs.Traffic.{Short, ctxs_apart, ctxs_high, ctxs_low, round_ctx, round_few, round_messages, round_quiet, round_receives, round_simple, round_wait}
+use Rattle.fab_workload_laws.proofs.Ranks.{both_given, place}
+use Rattle.fab_base.specs.Members.{only as given}
+use Rattle.fab_workload_laws.proofs.Traffic.{Short, ctxs_apart, ctxs_high, ctxs_low, round_ctx, round_messages, round_quiet, round_receives, round_simple, round_wait}
+use Rattle.fab_workloads.proofs.Appended.{round_few}
 
 -- ---- pairs
 
@@ -78,7 +80,7 @@ module _ (peers : ℕ) (most : peers ≤ 32) where
 
   pub ops_few : (i p : ℕ) (xs : List Round) → Each Short xs → length (rounds_ops peers i p xs) ≤ 96 * length xs
   ops_few i p [] short = omega arith
-  ops_few i p (x ∷ xs) short = omega (arith, length-append (round_ops peers i p x) (rounds_ops peers (i + 1) p xs), round_few peers most i p x short.0, ops_few (i + 1) p xs short.1)
+  ops_few i p (x ∷ xs) short = omega (arith, length-append (round_ops peers i p x) (rounds_ops peers (i + 1) p xs), round_few peers most i p x, ops_few (i + 1) p xs short.1)
 
   -- contexts
 

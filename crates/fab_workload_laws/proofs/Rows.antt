@@ -1,12 +1,9 @@
 -- Worked rounds of three ranks, by computing; and what is not so.
-use Rattle.std.proofs.Common.{List, None, [], map, refl, ℕ, ◌∷◌, ◌≡◌, ◌≢◌}
-use Rattle.std.specs.List.{join_with_byte}
+use Rattle.std.proofs.Common.{None, [], map, refl, ◌∷◌, ◌≡◌, ◌≢◌}
 use Rattle.std.specs.Prelude.{IsTrue, codes}
 use Rattle.fab_base.specs.declared.items.AtomicOp.TheVariants.{Sum}
 use Rattle.fab_base.specs.declared.items.Num.TheVariants.{U8}
-use Rattle.fab_base.specs.declared.peers.LineResult.{LineResult}
 use Rattle.fab_model.specs.Machine.{machine}
-use Rattle.fab_model.specs.Report.{result_words}
 use Rattle.fab_model.specs.Target.{element, elements}
 use Rattle.fab_answer.specs.Answer.{answer}
 use Rattle.fab_answer.specs.Settled.{is_settled}
@@ -14,6 +11,7 @@ use Rattle.fab_fold.specs.declared.coll.Coll.TheVariants.{Allgather, Allreduce, 
 use Rattle.fab_workloads.specs.declared.round.Round.{Round}
 use Rattle.fab_workloads.specs.Plan.{plan_of, receivers, senders}
 use Rattle.fab_fold.specs.Shares.{fold, outcome_of}
+use Rattle.fab_answer.proofs.rows.Answers.{result_text}
 
 -- allreduce FI_SUM u8 200 100 7; broadcast 2 text:ab; allgather hex:01 hex:02 hex:03; barrier
 unfoldable pub sums : Round
@@ -62,9 +60,6 @@ others_wait = refl
 
 pub each_needs_all : senders 3 Barrier 1 ≡ 0 ∷ 2 ∷ []
 each_needs_all = refl
-
-abbrev result_text : LineResult → List ℕ
-result_text x = join_with_byte 32 (result_words x)
 
 -- the script of two of these rounds, of two ranks
 pub small_settled : IsTrue (is_settled (plan_of 2 (barrier ∷ record { line = 4; coll = Allgather; shares = (97 ∷ []) ∷ (98 ∷ []) ∷ [] } ∷ [])))

@@ -150,3 +150,6 @@ payload_short size file =
     let front = length-take size file in
     let back = length-replicate {A = ℕ} (size - length file) 0 in
     omega (arith, length-append (take size file) (replicate (size - length file) 0), front, back, min-le_left size (length file), min-le_right size (length file))
+
+pub payload_sendable : (size : ℕ) (file : List ℕ) → size ≤ 16_777_216 → length (payload_of size file) ≤ 16_777_216
+payload_sendable size file small = omega (arith, payload_short size file, small)

@@ -1,9 +1,8 @@
 -- What the lines of a round are: contexts, messages, receives, and room to post.
-use Rattle.std.proofs.Common.{Bool, List, [], ap, ap₂, append-nil, append_assoc, arith, false, inl, inr, length, length-append, map, refl, subst, suc, sym, true, ℕ, ◌&&◌, ◌*◌, ◌++◌, ◌+◌, ◌<◌, ◌||◌, ◌∙◌, ◌∷◌, ◌≡◌, ◌≢◌, ◌≤◌, ◌⊎◌}
+use Rattle.std.proofs.Common.{Bool, List, [], ap, ap₂, append-nil, append_assoc, arith, false, inl, inr, length, map, refl, subst, suc, sym, true, ℕ, ◌&&◌, ◌*◌, ◌++◌, ◌+◌, ◌<◌, ◌||◌, ◌∙◌, ◌∷◌, ◌≡◌, ◌≢◌, ◌≤◌, ◌⊎◌}
 use Rattle.std.proofs.lemmas.Bool.{and_from, eqb-true}
 use Rattle.std.proofs.lemmas.List.Elements.{filter_map-append}
 use Rattle.std.proofs.lemmas.List.Folds.{list_all-append, list_any-append}
-use Rattle.std.proofs.lemmas.List.{length-map}
 use Rattle.std.specs.List.{cons_option, list_all, list_any}
 use Rattle.std.specs.Prelude.{filter_map, nat_le, ◌==◌}
 use Rattle.fab_base.specs.declared.operations.Receive.{Receive}
@@ -24,7 +23,8 @@ use Rattle.fab_workloads.specs.Plan.{receive_ctx, receive_of, receivers, round_o
 use Rattle.fab_fold.specs.Shares.{needs}
 use Rattle.fab_workloads.specs.Rounds.{share_of}
 use Rattle.fab_workloads.proofs.Appended.{filter_short as kept_short}
-use Rattle.fab_workload_laws.proofs.Ranks.{Apart, distinct_mapped, each_map, given, kept_apart, kept_below, kept_in, kept_out, place}
+use Rattle.fab_workload_laws.proofs.Ranks.{Apart, distinct_mapped, each_map, kept_apart, kept_below, kept_in, kept_out, place}
+use Rattle.fab_base.specs.Members.{only as given}
 
 -- shares are short
 abbrev pub Short : Round → Type 0
@@ -263,19 +263,6 @@ module _ (peers : ℕ) (most : peers ≤ 32) where
     pub round_quiet : Quiet (conf peers) (round_ops peers i r round)
     round_quiet = quiet_append (conf peers) sends (posts ++ waits) (sends_quiet i (share_of round r) (short r) to)
         (both_quiet i round short from from_below from_apart (omega (arith, kept_short (λ s. needs round.coll r s) peers, most)))
-
-    pub round_few : length (round_ops peers i r round) ≤ 96
-    round_few = omega (
-      arith,
-      length-append sends (posts ++ waits),
-      length-append posts waits,
-      length-map to (send_to i (share_of round r)),
-      length-map from (receive_of i round),
-      length-map from (wait_of i),
-      kept_short (λ t. needs round.coll t r) peers,
-      kept_short (λ s. needs round.coll r s) peers,
-      most,
-    )
 
     -- contexts
 

@@ -2,11 +2,7 @@
 use Rattle.std.proofs.Common.{List, [], arith, length, refl, ℕ, ◌<◌, ◌∷◌, ◌≡◌, ◌≢◌}
 use Rattle.std.specs.Prelude.{Err}
 use Rattle.fab_words.specs.declared.misread.Misread.TheVariants.{Words}
-use Rattle.fab_workloads.specs.Grammar.{allreduce_of, broadcast_of, peers_of}
-
-pub peers_other : (args : List (List ℕ)) → length args ≢ 1 → peers_of args ≡ Err Words
-peers_other (word ∷ []) h = absurd (h (omega arith))
-peers_other _ h = refl
+use Rattle.fab_workloads.specs.Grammar.{allreduce_of, broadcast_of}
 
 pub broadcast_other : (peers : ℕ) (args : List (List ℕ)) → length args ≢ 2 → broadcast_of peers args ≡ Err Words
 broadcast_other peers (root ∷ share ∷ []) h = absurd (h (omega arith))

@@ -31,8 +31,10 @@ use Rattle.fab_workloads.specs.declared.round.Round.{Round}
 use Rattle.fab_workloads.specs.declared.shares.Written.{Written}
 use Rattle.fab_workloads.specs.declared.shares.Written.TheVariants.{Bytes, Elements}
 use Rattle.fab_fold.specs.Shares.{is_reducing}
+pub use Rattle.fab_grammar.specs.Grammar.{Refusal}
 use Rattle.hex.specs.Hex.{decode_of}
 use Rattle.hex.specs.declared.error.FromHexError.{FromHexError}
+unfoldable pub use Rattle.fab_grammar.specs.Lines.{number_line as peers_of}
 
 -- what the lines before a line say
 pub record Before : Type 0 where
@@ -168,10 +170,6 @@ round_rules before verb args = said_rules before.peers before.rounds (said_of (u
 
 -- ---- `peers N`
 
-abbrev pub peers_of : List (List ℕ) → Result ℕ Misread
-peers_of (word ∷ []) = read_number word
-peers_of _ = Err Words
-
 abbrev pub out_of_range : Result ℕ Misread → Bool
 out_of_range (Ok n) = not (nat_le 1 n && nat_le n 32)
 out_of_range (Err fault) = false
@@ -230,9 +228,6 @@ unfoldable pub with_line : Before → ℕ → List ℕ → Before
 with_line before number line = with_words before number (words_of line)
 
 -- ---- the file
-
-abbrev pub Refusal : Type 0
-Refusal = ℕ × Why
 
 unfoldable pub read_lines : Before → ℕ → List (List ℕ) → Result Before Refusal
 read_lines before number [] = Ok before

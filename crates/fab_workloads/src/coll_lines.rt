@@ -50,7 +50,7 @@ pub(crate) fn is_header(word: &[u8], args: &mut Words) -> bool
 }
 
 /// `peers N`.
-#[tactic(auto, using(crate::proofs::Others::peers_other))]
+#[tactic(auto, using(fab_grammar::proofs::LineLemmas::number_line_other), unfolding(fab_grammar::specs::Lines::number_line))]
 pub(crate) fn read_peers(args: &mut Words) -> Read<u64>
     ensures { result ≡ peers_of args.old }
 {

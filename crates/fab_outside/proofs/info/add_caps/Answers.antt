@@ -1,7 +1,7 @@
 use Rattle.std.proofs.Common.{codes}
 use Rattle.fab_base.specs.Granted.{all_caps}
 use Rattle.fab_outside.specs.Info.{cap_names}
-use Rattle.fab_report.proofs.Blanks.{line_done}
+use Rattle.fab_model.proofs.Blanks.{line_done}
 use Rattle.fab_outside.proofs.info.add_caps.Goals as goal
 
 pub returns : goal.returns

@@ -1,8 +1,9 @@
 use Rattle.std.proofs.Common.{◌≡◌, ◌++◌, [], ◌∷◌, decimal, string_bytes, refl, arith}
 use Rattle.std.proofs.lemmas.Grind.{common_steps}
 use Rattle.fab_model.specs.Report.{verb_of, result_words}
-use Rattle.fab_report.specs.Texts.{after_blanks}
-use Rattle.fab_report.proofs.Blanks.{blanks, words_more, line_done}
+use Rattle.fab_model.specs.Words.{after_blanks}
+use Rattle.fab_report.proofs.Blanks.{words_more}
+use Rattle.fab_model.proofs.Blanks.{line_done, blanks}
 use Rattle.fab_report.proofs.report.add_done_line.Goals as goal
 
 pub returns : goal.returns

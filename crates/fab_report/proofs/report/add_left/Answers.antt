@@ -1,6 +1,6 @@
 use Rattle.std.proofs.Common.{codes}
 use Rattle.fab_model.specs.Report.{kept_words}
-use Rattle.fab_report.proofs.Blanks.{line_done}
+use Rattle.fab_model.proofs.Blanks.{line_done}
 use Rattle.fab_report.proofs.report.add_left.Goals as goal
 
 pub returns : goal.returns

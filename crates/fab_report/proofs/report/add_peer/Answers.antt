@@ -4,7 +4,8 @@ use Rattle.std.proofs.lemmas.Grind.{common_steps}
 use Rattle.fab_model.specs.Words.{text_of}
 use Rattle.fab_model.specs.Report.{kept_words, done_lines, stuck_line, amount_line, step_word, peer_lines}
 use Rattle.fab_report.proofs.Pieces.{option_copied-get}
-use Rattle.fab_report.proofs.Blanks.{blanks, part_more, part_last}
+use Rattle.fab_report.proofs.Blanks.{part_more, part_last}
+use Rattle.fab_model.proofs.Blanks.{blanks}
 use Rattle.fab_report.proofs.report.add_peer.Goals as goal
 
 pub returns : goal.returns

@@ -1,8 +1,8 @@
 use Rattle.std.proofs.Common.{map, codes, refl, arith}
 use Rattle.fab_model.specs.Report.{step_word}
-use Rattle.fab_report.specs.Texts.{after_blanks}
+use Rattle.fab_model.specs.Words.{after_blanks}
 use Rattle.fab_report.proofs.Pieces.{pieces_all}
-use Rattle.fab_report.proofs.Blanks.{line_done}
+use Rattle.fab_model.proofs.Blanks.{line_done}
 use Rattle.fab_report.proofs.report.add_trace.Goals as goal
 
 pub returns : goal.returns

@@ -1,6 +1,6 @@
 use Rattle.std.proofs.Common.{◌≡◌, ◌++◌, drop, map, string_bytes}
 use Rattle.fab_model.specs.Report.{step_word}
-use Rattle.fab_report.specs.Texts.{after_blanks}
+use Rattle.fab_model.specs.Words.{after_blanks}
 use Rattle.fab_report.proofs.report.add_trace.Given as goal
 
 abbrev pub invariant-loop-step : goal.invariant-loop-step

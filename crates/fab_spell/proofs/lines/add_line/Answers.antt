@@ -3,7 +3,7 @@ use Rattle.std.proofs.Common.{◌≡◌, ◌++◌, ◌∷◌, [], string_bytes, 
 use Rattle.std.proofs.lemmas.Grind.{common_steps}
 use Rattle.fab_grammar.specs.Verbs.{name_of}
 use Rattle.fab_spell.specs.Spelling.{verb_for, args_for}
-use Rattle.fab_spell.proofs.Blanks.{line_done}
+use Rattle.fab_model.proofs.Blanks.{line_done}
 use Rattle.fab_spell.proofs.lines.add_line.Goals as goal
 
 pub returns : goal.returns

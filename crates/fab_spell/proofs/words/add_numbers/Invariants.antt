@@ -1,5 +1,5 @@
 use Rattle.std.proofs.Common.{◌≡◌, ◌++◌, drop, map, decimal, string_bytes}
-use Rattle.fab_spell.specs.Spelling.{after_blanks}
+use Rattle.fab_model.specs.Words.{after_blanks}
 use Rattle.fab_spell.proofs.words.add_numbers.Given as goal
 
 abbrev pub invariant-loop-n : goal.invariant-loop-n

@@ -1,9 +1,10 @@
 use Rattle.std.proofs.Common.{◌≡◌, ◌<◌, length, refl, ◌∙◌}
 use Rattle.fab_app.specs.Late.{asked, Drew}
-use Rattle.fab_app.proofs.Answering.{ok_by, refused_is, err_map}
+use Rattle.fab_app.proofs.Answering.{ok_by, err_map}
 use Rattle.fab_app.proofs.Late.{drew_none, late_on, late_ok, late_not}
 use Rattle.fab_app.proofs.endpoint.Endpoint.ask_on.Given.{Over}
 use Rattle.fab_app.proofs.endpoint.Endpoint.ask_on.Goals as goal
+use Rattle.std.proofs.lemmas.Result.{IfErr-at_err}
 
 pub late-init : goal.late-init
 late-init g c = record { drew = rw (c.self.view_is) (drew_none _); buf = refl }
@@ -22,7 +23,7 @@ late_go : (g : Over) (c : goal.In-Late g) → (c.in-Late.back ≡ c.args.buf) ×
 late_go g c =
     let seen = g.E.Sees.seen in
     let (n, is) = c.in-Late.ensures in
-    let told = refused_is _ c.ask_once.result _ is c.ask_once.ensures.err in
+    let told = IfErr-at_err _ is c.ask_once.ensures.err in
     let on = late_on (asked c.args.ask c.args.ctx c.late.buf) (seen c.args.self.now) (seen c.late.self-inside.inner) (seen c.log_clear.new.self) (seen c.ask_once.new.endpoint) n c.late.invariant.drew c.log_clear.ensures c.known.ensures told.1 in
     (told.0 ∙ c.late.invariant.buf, on.0, on.1)
 

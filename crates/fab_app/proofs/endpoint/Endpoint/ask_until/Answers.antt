@@ -2,13 +2,14 @@ use Rattle.std.proofs.Common.{false, true, refl, ◌∙◌}
 use Rattle.fab_app.specs.Late.{asked}
 use Rattle.fab_app.specs.Until.{timed}
 use Rattle.fab_app.specs.Within.{AskMisses}
-use Rattle.fab_app.proofs.Answering.{ok_by, err_map, refused_is}
+use Rattle.fab_app.proofs.Answering.{ok_by, err_map}
 use Rattle.fab_app.proofs.Chains.{none, moved_on}
 use Rattle.fab_app.proofs.Counting.{ask_missed}
 use Rattle.fab_app.proofs.Drawing.{refused_late}
 use Rattle.fab_app.proofs.TimedTries.{is_late, lasts, ask_clock, ask_told}
 use Rattle.fab_app.proofs.Timing.{early_on, early_step, late_on, late_step, no_turns}
 use Rattle.fab_app.proofs.endpoint.Endpoint.ask_until.Goals as goal
+use Rattle.std.proofs.lemmas.Result.{IfErr-at_err}
 
 pub turns-init : goal.turns-init
 turns-init g c =
@@ -34,7 +35,7 @@ turns-preserved g c =
     let told = g.C.Clock.told in
     let moment = c.args.moment.nanos in
     let (busy, is) = c.in-Late.ensures in
-    let refusal = refused_is _ c.ask_on.result _ is c.ask_on.ensures.err in
+    let refusal = IfErr-at_err _ is c.ask_on.ensures.err in
     let moved = moved_on g.E.Sees.fixed (seen c.args.self.now) (seen c.ask_on.new.self) (seen c.progress.new.self) _ _ (refused_late (asked c.args.ask c.args.ctx c.turns.buf) (seen c.args.self.now) (seen c.turns.self) (seen c.ask_on.new.self) _ c.turns.invariant.before refusal.1) c.progress.ensures in
     let step = early_step (AskMisses g.E.Sees.fixed 64 (asked c.args.ask c.args.ctx c.args.buf)) moment (told c.turns.clock) (told c.has_passed.new.clock) (seen c.turns.self) (seen c.progress.new.self) c.in-Ok.late (ask_missed g.E.Sees.fixed 64 c.args.ask c.args.ctx c.args.buf c.turns.buf (seen c.turns.self) (seen c.ask_on.new.self) (seen c.progress.new.self) busy c.progress.result c.turns.invariant.buf refusal.1 c.progress.ensures) c.in-Ok.ensures c.if-late.false in
     record {
@@ -49,7 +50,7 @@ returns-then-late g c =
     let told = g.C.Clock.told in
     let moment = c.args.moment.nanos in
     let (busy, is) = c.in-Late.ensures in
-    let refusal = refused_is _ c.ask_on.result _ is c.ask_on.ensures.err in
+    let refusal = IfErr-at_err _ is c.ask_on.ensures.err in
     let moved = moved_on g.E.Sees.fixed (seen c.args.self.now) (seen c.ask_on.new.self) (seen c.progress.new.self) _ _ (refused_late (asked c.args.ask c.args.ctx c.turns.buf) (seen c.args.self.now) (seen c.turns.self) (seen c.ask_on.new.self) _ c.turns.invariant.before refusal.1) c.progress.ensures in
     let step = late_step (AskMisses g.E.Sees.fixed 64 (asked c.args.ask c.args.ctx c.args.buf)) moment (told c.turns.clock) (told c.has_passed.new.clock) (seen c.turns.self) (seen c.progress.new.self) c.in-Ok.late (ask_missed g.E.Sees.fixed 64 c.args.ask c.args.ctx c.args.buf c.turns.buf (seen c.turns.self) (seen c.ask_on.new.self) (seen c.progress.new.self) busy c.progress.result c.turns.invariant.buf refusal.1 c.progress.ensures) c.in-Ok.ensures c.if-late.true in
     let turns = late_on (AskMisses g.E.Sees.fixed 64 (asked c.args.ask c.args.ctx c.args.buf)) moment (timed (told c.args.clock.now) (seen c.args.self.now)) (timed (told c.turns.clock) (seen c.turns.self)) (timed (told c.has_passed.new.clock) (seen c.progress.new.self)) c.turns.invariant.turns step in
@@ -63,6 +64,6 @@ returns-in_default g c =
     let told = g.C.Clock.told in
     let moment = c.args.moment.nanos in
     let (busy, is) = c.in-Late.ensures in
-    let refusal = refused_is _ c.ask_on.result _ is c.ask_on.ensures.err in
+    let refusal = IfErr-at_err _ is c.ask_on.ensures.err in
     let moved = moved_on g.E.Sees.fixed (seen c.args.self.now) (seen c.ask_on.new.self) (seen c.progress.new.self) _ _ (refused_late (asked c.args.ask c.args.ctx c.turns.buf) (seen c.args.self.now) (seen c.turns.self) (seen c.ask_on.new.self) _ c.turns.invariant.before refusal.1) c.progress.ensures in
     ask_clock g.E.Sees.fixed moment (asked c.args.ask c.args.ctx c.args.buf) c.args.buf (timed (told c.args.clock.now) (seen c.args.self.now)) (timed (told c.has_passed.new.clock) (seen c.progress.new.self)) c.clock_failed.result (c.clock_failed.ensures.kept ∙ (refusal.0 ∙ c.turns.invariant.buf)) c.clock_failed.ensures.why moved

@@ -1,11 +1,12 @@
 use Rattle.std.proofs.Common.{refl, ◌∙◌, arith}
 use Rattle.fab_app.specs.Late.{asked}
-use Rattle.fab_app.proofs.Answering.{ok_by, err_both, err_map, refused_is}
+use Rattle.fab_app.proofs.Answering.{ok_by, err_both, err_map}
 use Rattle.fab_app.specs.Within.{AskMisses}
 use Rattle.fab_app.proofs.Counting.{asks_within, asks_within_not, ask_missed, lasting, one_more}
 use Rattle.fab_app.proofs.Chains.{none, moved_on}
 use Rattle.fab_app.proofs.Drawing.{receives_within, receives_within_not, refused_late}
 use Rattle.fab_app.proofs.endpoint.Endpoint.ask_within.Goals as goal
+use Rattle.std.proofs.lemmas.Result.{IfErr-at_err}
 
 pub times-init : goal.times-init
 times-init g c = record { before = none _; buf = refl; missed = refl }
@@ -22,7 +23,7 @@ pub times-preserved : goal.times-preserved
 times-preserved g c =
     let seen = g.E.Sees.seen in
     let (busy, is) = c.in-Late.ensures in
-    let told = refused_is _ c.ask_on.result _ is c.ask_on.ensures.err in
+    let told = IfErr-at_err _ is c.ask_on.ensures.err in
     record {
       before = moved_on g.E.Sees.fixed (seen c.args.self.now) (seen c.ask_on.new.self) (seen c.progress.new.self) _ _ (refused_late (asked c.args.ask c.args.ctx c.times.buf) (seen c.args.self.now) (seen c.times.self) (seen c.ask_on.new.self) _ c.times.invariant.before told.1) c.progress.ensures;
       buf = told.0 ∙ c.times.invariant.buf;

@@ -1,11 +1,12 @@
 use Rattle.std.proofs.Common.{refl, ◌∙◌, arith}
 use Rattle.fab_app.specs.Trying.{sent_by}
-use Rattle.fab_app.proofs.Answering.{ok_by, err_both, err_map, refused_is}
+use Rattle.fab_app.proofs.Answering.{ok_by, err_both, err_map}
 use Rattle.fab_app.specs.Within.{SendMisses}
 use Rattle.fab_app.proofs.Counting.{sends_within, sends_within_not, send_missed, lasting, one_more}
 use Rattle.fab_app.proofs.Chains.{none, moved_on, refused_on}
 use Rattle.fab_app.proofs.Retries.{sends_late, sends_late_not}
 use Rattle.fab_app.proofs.endpoint.Endpoint.send_on.Goals as goal
+use Rattle.std.proofs.lemmas.Result.{IfErr-at_err}
 
 pub times-init : goal.times-init
 times-init g c = record { before = none _; buf = refl; missed = refl }
@@ -22,7 +23,7 @@ pub times-preserved : goal.times-preserved
 times-preserved g c =
     let seen = g.E.Sees.seen in
     let (busy, is) = c.in-Late.ensures in
-    let told = refused_is _ c.send_once.result _ is c.send_once.ensures.err in
+    let told = IfErr-at_err _ is c.send_once.ensures.err in
     record {
       before = moved_on g.E.Sees.fixed (seen c.args.self.now) (seen c.send_once.new.self) (seen c.progress.new.self) _ _ (refused_on g.E.Sees.fixed (sent_by c.args.message c.times.buf) (seen c.args.self.now) (seen c.times.self) (seen c.send_once.new.self) _ c.times.invariant.before told.1) c.progress.ensures;
       buf = told.0 ∙ c.times.invariant.buf;

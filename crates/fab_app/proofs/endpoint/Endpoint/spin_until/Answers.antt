@@ -1,5 +1,4 @@
 use Rattle.std.proofs.Common.{◌+◌}
-use Rattle.fab_face.specs.Held.{Seen}
 use Rattle.fab_app.specs.Until.{timed}
 use Rattle.fab_app.specs.Within.{Misses, Times}
 use Rattle.fab_app.proofs.Chains.{none, then_more}
