@@ -2,7 +2,7 @@
 use Rattle.std.proofs.Common.{◌≡◌, ◌≢◌, ℕ, ◌<◌, Bool, true, false, cond, ◌||◌, ◌&&◌, ◌==◌, List, [], ◌∷◌, get_or, set, subst, zero, suc, map, filter, length, Option, Some, None, Result, Ok, Err, sym, ap, ◌∙◌, refl, arith, true≢false}
 use Rattle.std.specs.List.{list_all, slice_split, join_with_byte}
 use Rattle.std.proofs.lemmas.List.{get_or-set_same, length-set, set-get_or}
-use Rattle.fab_base.specs.Granted.{all_caps, cap_index, caps_of, has, no_caps, with_cap}
+use Rattle.fab_base.specs.Granted.{all_caps, cap_index, has, no_caps, with_cap}
 use Rattle.fab_base.specs.declared.caps.Cap.{Cap}
 use Rattle.fab_base.specs.declared.caps.Cap.TheVariants.{Msg}
 use Rattle.fab_base.specs.declared.caps.Caps.{Caps}
@@ -38,6 +38,7 @@ unfolding cap_named named_back
 all_good = refl
 
 good_name : (cap : Cap) → GoodName cap
+unfolding named_back
 good_name cap =
     let good = each_cap (λ c. named_back c (cap_named (cap_name c)) && (lacks_comma (cap_name c) && is_word (cap_name c))) all_good cap in
     let parts = and_parts _ _ good in
@@ -45,7 +46,6 @@ good_name cap =
     record { named = back (cap_named (cap_name cap)) parts.0; lacks = rest.0; word = rest.1 }
   where
     back : (o : Option Cap) → named_back cap o ≡ true → o ≡ Some cap
-    unfolding named_back
     back None e = cc
     back (Some d) e = ap Some (same_index d cap (grind (arith, nat_tests, e)))
 
@@ -85,11 +85,8 @@ abbrev pub IsWhole : Caps → Type 0
 IsWhole caps = length caps.members ≡ length all_caps
 
 all_bits : (caps : Caps) → IsWhole caps → with_bits (has caps) no_caps all_caps ≡ caps
-all_bits caps whole = same ∙ sym (caps_of_has caps (has caps) whole (λ c. refl))
-  where
-    same : with_bits (has caps) no_caps all_caps ≡ caps_of (has caps)
-    unfolding with_bit
-    same = refl
+unfolding with_bit
+all_bits caps whole = sym (caps_of_has caps (has caps) whole (λ c. refl))
 
 -- at least one name was read
 
@@ -114,11 +111,12 @@ none_has = has_caps_of (λ c. false)
 
 read_whole : (names : List (List ℕ)) (before caps : Caps) → IsWhole before → add_names before names ≡ Ok caps → IsWhole caps
 read_whole [] before caps whole read = let same : before ≡ caps = cc in subst IsWhole same whole
-read_whole (name ∷ names) before caps whole read = by (cap_named name) read
+read_whole (name ∷ names) before caps whole read = by (cap_named name) read (λ d. read_whole names (with_cap d before) caps (stays_whole d before whole))
   where
-    by : (o : Option Cap) → elim o as (λ _. Result Caps Misread) [ None ↦ Err Words | Some d ↦ add_names (with_cap d before) names ] ≡ Ok caps → IsWhole caps
-    by None f = cc
-    by (Some d) f = read_whole names (with_cap d before) caps (stays_whole d before whole) f
+    by : (o : Option Cap) → elim o as (λ _. Result Caps Misread) [ None ↦ Err Words | Some d ↦ add_names (with_cap d before) names ] ≡ Ok caps
+        → ((d : Cap) → add_names (with_cap d before) names ≡ Ok caps → IsWhole caps) → IsWhole caps
+    by None f rest = cc
+    by (Some d) f rest = rest d f
 
 -- what was read is a whole set
 pub whole_caps : (word : List ℕ) (caps : Caps) → names_of word ≡ Ok caps → IsWhole caps
