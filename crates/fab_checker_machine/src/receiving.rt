@@ -12,7 +12,7 @@ ghost use Rattle.fab_checker_machine.specs.Room.{entries_given, waits, place_fau
 ghost use Rattle.fab_checker_halves.specs.Places.{taken_first};
 
 use crate::state::State;
-use fab_base::{Arrival, Buf, Busy, Coming, Fault, LineResult, NoMemory, Receive, Want};
+use fab_base::{Arrival, Buf, Busy, Cap, Coming, Fault, LineResult, NoMemory, Receive, Want};
 use fab_checker_values::matching::first_taken;
 
 /// A call of recv, trecv or recv_multi. `source` is an index of the address vector, `len` the length of

@@ -4,7 +4,7 @@ ghost use Rattle.fab_model.specs.Calls.{reg, close, put, show};
 ghost use Rattle.fab_checker_machine.specs.Seen.{state_of};
 
 use crate::state::State;
-use fab_base::{Access, Buf, Fault, LineResult, NoMemory};
+use fab_base::{Access, Buf, Cap, Fault, LineResult, NoMemory};
 use fab_checker_values::target::{Region, put_at, region_at, take_region};
 
 impl State {

@@ -5,7 +5,7 @@ ghost use Rattle.fab_model.specs.Arrivals.{do_head, do_draw, remote_data, remote
 ghost use Rattle.fab_checker_machine.specs.Seen.{state_of};
 
 use crate::state::State;
-use fab_base::{Buf, Class, Coming, Entry, ItemHead, Kind, NoMemory, Outcome, Receive, Taken};
+use fab_base::{Buf, Cap, Class, Coming, Entry, ItemHead, Kind, NoMemory, Outcome, Receive, Taken};
 use fab_checker_values::target::perform;
 
 impl State {

@@ -7,8 +7,8 @@ ghost use Rattle.fab_model.specs.Complete.{reply_head};
 ghost use Rattle.fab_checker_values.specs.Seen.{order_of};
 
 use fab_base::{
-    Ack, Atom, AtomicOp, Buf, Caps, Class, Form, INJECT_BYTES, ItemHead, Kind, Level, NoMemory,
-    Outcome,
+    Ack, Atom, AtomicOp, Buf, Cap, Caps, Class, Form, INJECT_BYTES, ItemHead, Kind, Level,
+    NoMemory, Outcome,
 };
 
 /// A transmit call. `injected` says that it is one of the inject calls. `bytes` are those of the message,

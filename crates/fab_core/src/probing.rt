@@ -3,7 +3,7 @@ ghost use Rattle.std.specs.Prelude.{◌≡◌};
 ghost use Rattle.std.specs.Option.{option_map};
 
 use crate::parts::Core;
-use fab_base::Fault;
+use fab_base::{Cap, Fault};
 use fab_face::probing::{Probed, Probing};
 use fab_match::Matcher;
 

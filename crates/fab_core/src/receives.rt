@@ -12,7 +12,7 @@ ghost use Rattle.fab_core.specs.Passing.{is_held, passing_post};
 
 use crate::callers::OfReceive;
 use crate::parts::Core;
-use fab_base::{Buf, Busy, Class, Fault, Refused, Want};
+use fab_base::{Buf, Busy, Cap, Class, Fault, Refused, Want};
 use fab_face::machine::Ask;
 use fab_match::Matcher;
 use fab_rx::{Inbox, Posted};

@@ -19,7 +19,7 @@ ghost use Rattle.fab_core.specs.Requests.{IsAwaited};
 
 use crate::callers::IntoReceive;
 use crate::parts::Core;
-use fab_base::{FrameHead, ItemHead, NoMemory};
+use fab_base::{Cap, FrameHead, ItemHead, NoMemory};
 use fab_match::Matcher;
 use fab_rx::{Finished, Inbox};
 use fab_settling::ending::{answer, answer_writes};

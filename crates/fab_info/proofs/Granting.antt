@@ -5,6 +5,7 @@ use Rattle.std.specs.List.{list_any}
 use Rattle.std.proofs.lemmas.Bool.{or_parts, or_cases, and_parts, not-true}
 use Rattle.std.proofs.lemmas.Bool.Decides.{nat_tests}
 use Rattle.std.proofs.lemmas.List.Folds.{list_any_at, Any-from_list_any}
+use Rattle.fab_base.proofs.Capabilities.{any_cap, has_caps_of}
 use Rattle.fab_base.specs.Granted.{has, all_caps, caps_of}
 use Rattle.fab_base.specs.Offer.{limits_of, is_offered, most_message, most_peers}
 use Rattle.fab_base.specs.declared.caps.Api.{Api}
@@ -17,27 +18,6 @@ use Rattle.fab_base.specs.declared.limits.Size.{Size}
 use Rattle.fab_base.specs.declared.limits.Size.TheVariants.{Peers, Lane, Pool, Tx, Rx, Cq, Log, Inject, Message}
 use Rattle.fab_model.specs.Negotiation.{has_any, grants, grants_of, is_not_offered, wish, size_of, wish_is_refused, is_refused, granted_info}
 use Rattle.fab_info.specs.Negotiation.{wish_in, number, Includes, IsWithin, IsOutside, CannotBeHad}
-
--- ---- capabilities
-
--- a test that holds of a capability holds of one of all
-any_of : (test : Cap → Bool) (cap : Cap) → test cap ≡ true → list_any test all_caps ≡ true
-any_of test Msg e = list_any_at test all_caps 0 Msg (omega arith) e
-any_of test Tagged e = list_any_at test all_caps 1 Msg (omega arith) e
-any_of test Rma e = list_any_at test all_caps 2 Msg (omega arith) e
-any_of test Atomic e = list_any_at test all_caps 3 Msg (omega arith) e
-any_of test DirectedRecv e = list_any_at test all_caps 4 Msg (omega arith) e
-any_of test Send e = list_any_at test all_caps 5 Msg (omega arith) e
-any_of test Recv e = list_any_at test all_caps 6 Msg (omega arith) e
-any_of test Read e = list_any_at test all_caps 7 Msg (omega arith) e
-any_of test Write e = list_any_at test all_caps 8 Msg (omega arith) e
-any_of test RemoteRead e = list_any_at test all_caps 9 Msg (omega arith) e
-any_of test RemoteWrite e = list_any_at test all_caps 10 Msg (omega arith) e
-any_of test MultiRecv e = list_any_at test all_caps 11 Msg (omega arith) e
-any_of test Source e = list_any_at test all_caps 12 Msg (omega arith) e
-any_of test RmaEvent e = list_any_at test all_caps 13 Msg (omega arith) e
-any_of test Fence e = list_any_at test all_caps 14 Msg (omega arith) e
-any_of test LocalComm e = list_any_at test all_caps 15 Msg (omega arith) e
 
 default_peers : (api : Api) → 32 ≤ most_peers api
 default_peers One = omega arith
@@ -71,35 +51,16 @@ module _ (api : Api) where
   grants_of_asked set Fence e o = o
   grants_of_asked set LocalComm e o = o
 
-  -- a set that `caps_of` makes has what it was made of
-  has_caps_of : (member : Cap → Bool) (cap : Cap) → has (caps_of member) cap ≡ member cap
-  has_caps_of member Msg = refl
-  has_caps_of member Tagged = refl
-  has_caps_of member Rma = refl
-  has_caps_of member Atomic = refl
-  has_caps_of member DirectedRecv = refl
-  has_caps_of member Send = refl
-  has_caps_of member Recv = refl
-  has_caps_of member Read = refl
-  has_caps_of member Write = refl
-  has_caps_of member RemoteRead = refl
-  has_caps_of member RemoteWrite = refl
-  has_caps_of member MultiRecv = refl
-  has_caps_of member Source = refl
-  has_caps_of member RmaEvent = refl
-  has_caps_of member Fence = refl
-  has_caps_of member LocalComm = refl
-
   -- what is asked for and not refused is on offer
   offered_of : (set : Caps) (cap : Cap) → list_any (is_not_offered api set) all_caps ≡ false → has set cap ≡ true → is_offered api cap ≡ true
   offered_of set cap e h = elim (is_offered api cap) as (λ b. is_offered api cap ≡ b → is_offered api cap ≡ true) [
     | true ↦ λ o. o
-    | false ↦ λ o. let refused = any_of (is_not_offered api set) cap (rw (h, o)) in cc
+    | false ↦ λ o. let refused = any_cap (is_not_offered api set) cap (rw (h, o)) in cc
   ] refl
 
   granted_asked : (set : Caps) (cap : Cap) → list_any (is_not_offered api set) all_caps ≡ false → has set cap ≡ true → grants api set cap ≡ true
   granted_asked set cap e asks =
-      let some = grants_some set cap (any_of (has set) cap asks) in
+      let some = grants_some set cap (any_cap (has set) cap asks) in
       let given = grants_of_asked set cap asks (offered_of set cap e asks) in
       cc
 

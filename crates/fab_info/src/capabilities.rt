@@ -5,7 +5,7 @@ ghost use Rattle.fab_base.specs.Granted.{all_caps, caps_of};
 ghost use Rattle.fab_base.specs.Offer.{is_offered};
 ghost use Rattle.fab_model.specs.Negotiation.{has_any, modifier, grants, grants_of, is_not_offered};
 
-use fab_base::{Api, CAPS, Cap, Caps};
+use fab_base::{Api, CAP_COUNT, CAPS, Cap, Caps};
 
 /// What is modified, and by which modifiers: of messages, and of remote memory access and atomics.
 const MESSAGES: [Cap; 2] = [Cap::Msg, Cap::Tagged];
@@ -38,47 +38,31 @@ pub(crate) fn is_refused(api: Api, asked: &Caps) -> bool
         .any(|cap| asked.has(*cap) && !cap.is_offered(api))
 }
 
-/// All that is on offer.
-fn offer(api: Api) -> Caps
-    ensures { result ≡ caps_of (is_offered api) }
+/// Whether the capability is granted to whoever asks for something: the primary ones asked for, the modifiers as `modifies` says, and
+/// the secondary ones that are on offer.
+fn shares(api: Api, asked: &Caps, cap: Cap) -> bool
+    ensures { result ≡ grants_of api asked.now cap }
 {
-    Caps {
-        msg: Cap::Msg.is_offered(api),
-        tagged: Cap::Tagged.is_offered(api),
-        rma: Cap::Rma.is_offered(api),
-        atomic: Cap::Atomic.is_offered(api),
-        directed_recv: Cap::DirectedRecv.is_offered(api),
-        send: Cap::Send.is_offered(api),
-        recv: Cap::Recv.is_offered(api),
-        read: Cap::Read.is_offered(api),
-        write: Cap::Write.is_offered(api),
-        remote_read: Cap::RemoteRead.is_offered(api),
-        remote_write: Cap::RemoteWrite.is_offered(api),
-        multi_recv: Cap::MultiRecv.is_offered(api),
-        source: Cap::Source.is_offered(api),
-        rma_event: Cap::RmaEvent.is_offered(api),
-        fence: Cap::Fence.is_offered(api),
-        local_comm: Cap::LocalComm.is_offered(api),
+    match cap {
+        Cap::Msg | Cap::Tagged | Cap::Rma | Cap::Atomic | Cap::DirectedRecv => asked.has(cap),
+        Cap::Send | Cap::Recv => modifies(asked, &MESSAGES, &MESSAGE_MODIFIERS, cap),
+        Cap::Read | Cap::Write | Cap::RemoteRead | Cap::RemoteWrite => {
+            modifies(asked, &MEMORY, &MEMORY_MODIFIERS, cap)
+        }
+        Cap::MultiRecv | Cap::Source | Cap::RmaEvent | Cap::Fence | Cap::LocalComm => {
+            cap.is_offered(api)
+        }
     }
 }
 
-/// What is granted to whoever asks for something: the secondary ones as they are on offer.
-fn share(api: Api, asked: &Caps) -> Caps
-    ensures { result ≡ caps_of (grants_of api asked.now) }
+/// Whether the capability is granted to whoever asks for these.
+fn grants(api: Api, asked: &Caps, cap: Cap) -> bool
+    ensures { result ≡ grants api asked.now cap }
 {
-    Caps {
-        msg: asked.msg,
-        tagged: asked.tagged,
-        rma: asked.rma,
-        atomic: asked.atomic,
-        directed_recv: asked.directed_recv,
-        send: modifies(asked, &MESSAGES, &MESSAGE_MODIFIERS, Cap::Send),
-        recv: modifies(asked, &MESSAGES, &MESSAGE_MODIFIERS, Cap::Recv),
-        read: modifies(asked, &MEMORY, &MEMORY_MODIFIERS, Cap::Read),
-        write: modifies(asked, &MEMORY, &MEMORY_MODIFIERS, Cap::Write),
-        remote_read: modifies(asked, &MEMORY, &MEMORY_MODIFIERS, Cap::RemoteRead),
-        remote_write: modifies(asked, &MEMORY, &MEMORY_MODIFIERS, Cap::RemoteWrite),
-        ..offer(api)
+    if has_any(asked, &CAPS) {
+        shares(api, asked, cap)
+    } else {
+        cap.is_offered(api)
     }
 }
 
@@ -86,9 +70,9 @@ fn share(api: Api, asked: &Caps) -> Caps
 pub(crate) fn granted(api: Api, asked: &Caps) -> Caps
     ensures { result ≡ caps_of (grants api asked.now) }
 {
-    if has_any(asked, &CAPS) {
-        share(api, asked)
-    } else {
-        offer(api)
+    let mut members = [false; CAP_COUNT];
+    for i in 0..CAP_COUNT {
+        members[i] = grants(api, asked, CAPS[i]);
     }
+    Caps::of(members)
 }

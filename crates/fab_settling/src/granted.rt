@@ -5,7 +5,7 @@ ghost use Rattle.fab_face.specs.Machine.{kind_of};
 ghost use Rattle.fab_face.specs.Requesting.{atom_asked, kind_asked};
 ghost use Rattle.fab_settling.specs.Orders.{lacks};
 
-use fab_base::{Access, Atom, AtomicOp, Caps, Form};
+use fab_base::{Access, Atom, AtomicOp, Cap, Caps, Form};
 use fab_face::requesting::Asked;
 
 /// Whether messages of this kind may be sent (FI_MSG, FI_TAGGED and FI_SEND of fi_getinfo(3)).
@@ -48,5 +48,6 @@ pub fn may_ask(caps: &Caps, asked: Asked) -> bool
 pub fn lacks(caps: &Caps, access: Access) -> bool
     ensures { result ≡ lacks caps.now access }
 {
-    access.remote_read && !caps.has(Cap::RemoteRead) || access.remote_write && !caps.has(Cap::RemoteWrite)
+    access.remote_read && !caps.has(Cap::RemoteRead)
+        || access.remote_write && !caps.has(Cap::RemoteWrite)
 }

@@ -6,7 +6,9 @@ use Rattle.std.specs.Option.{IfSome}
 use Rattle.std.proofs.lemmas.Bool.Decides.{nat_tests}
 use Rattle.std.proofs.lemmas.List.{append-nil, length-map}
 use Rattle.std.proofs.lemmas.List.FromFn.{length-map-range_with_len}
-use Rattle.fab_base.specs.Granted.{all_caps}
+use Rattle.fab_base.specs.Granted.{all_caps, has, no_caps}
+use Rattle.fab_base.specs.declared.caps.Cap.{Cap}
+use Rattle.fab_base.proofs.Capabilities.{any_cap, caps_of_has}
 use Rattle.fab_base.specs.Offer.{limits, most_peers}
 use Rattle.fab_base.specs.declared.caps.Api.{Api}
 use Rattle.fab_base.specs.declared.caps.Api.TheVariants.{One, Two}
@@ -37,10 +39,10 @@ use Rattle.fab_grammar.specs.Grammar.{Refusal, read_lines, script_with, granted,
 use Rattle.fab_grammar.specs.Rules.{is_refused}
 use Rattle.fab_grammar.specs.Settings.{between, size_of, wish_of, setting_of, asked_caps, hints_of}
 use Rattle.fab_grammar.specs.Versions.{most_bytes, most_in_all}
-use Rattle.fab_grammar.proofs.PartLemmas.{or_false}
 use Rattle.fab_spell.specs.Again.{WasRead, Again}
 use Rattle.fab_spell.specs.Headings.{setting_row, SettingRead, SettingAgain}
-use Rattle.fab_spell.proofs.Headings.{setting_again}
+use Rattle.fab_spell.proofs.CapsNames.{IsWhole}
+use Rattle.fab_spell.proofs.Headings.{setting_again, whole_setting}
 use Rattle.fab_spell.proofs.Operations.{op_again}
 use Rattle.fab_spell.specs.Print.{asked, wished, selected, settings_for, item_row, items_of, rows_of, printed, without_number, unnumbered, IsSame}
 use Rattle.fab_spell.proofs.Parts.{LinesAgain, PartsAgain, parts_size, written_count, written_size, items_fit, parts_written, parts_plain}
@@ -51,35 +53,27 @@ use Rattle.fab_spell.proofs.Stepping.{Rest, Outcome, take_header}
 use Rattle.fab_spell.proofs.Written.{text_read}
 
 -- ---- no capability is asked for where `caps` is not written
-abbrev no_caps : Caps
-no_caps = no_hints.caps
+none_asked : (c : Caps) → IsWhole c → has_any c all_caps ≡ false → no_caps ≡ c
+none_asked c whole e = sym (caps_of_has c (λ cap. false) whole lacks)
+  where
+    lacks : (cap : Cap) → has c cap ≡ false
+    lacks cap = by (has c cap) refl
+      where
+        by : (b : Bool) → has c cap ≡ b → b ≡ false
+        by true asked = let some = any_cap (has c) cap asked in cc
+        by false none = refl
 
-none_asked : (c : Caps) → has_any c all_caps ≡ false → no_caps ≡ c
-none_asked c e =
-    let a = or_false c.msg _ e in
-    let b = or_false c.tagged _ a.1 in
-    let d = or_false c.rma _ b.1 in
-    let f = or_false c.atomic _ d.1 in
-    let g = or_false c.directed_recv _ f.1 in
-    let h = or_false c.send _ g.1 in
-    let i = or_false c.recv _ h.1 in
-    let j = or_false c.read _ i.1 in
-    let k = or_false c.write _ j.1 in
-    let l = or_false c.remote_read _ k.1 in
-    let m = or_false c.remote_write _ l.1 in
-    let n = or_false c.multi_recv _ m.1 in
-    let o = or_false c.source _ n.1 in
-    let p = or_false c.rma_event _ o.1 in
-    let q = or_false c.fence _ p.1 in
-    let r = or_false c.local_comm _ q.1 in
-    sym (rw (a.0, b.0, d.0, f.0, g.0, h.0, i.0, j.0, k.0, l.0, m.0, n.0, o.0, p.0, q.0, r.0) refl)
-
-caps_kept : (c : Caps) → asked_caps (kept_caps c) ≡ c
-caps_kept c = by_any (has_any c all_caps) refl
+caps_kept : (c : Caps) → IsWhole c → asked_caps (kept_caps c) ≡ c
+caps_kept c whole = by_any (has_any c all_caps) refl
   where
     by_any : (b : Bool) → has_any c all_caps ≡ b → asked_caps (cond b (Some c) None) ≡ c
     by_any true e = refl
-    by_any false e = none_asked c e
+    by_any false e = none_asked c whole e
+
+-- what is asked for was read
+whole_asked : (api : Api) (o : Option Caps) → IfSome o (λ c. SettingRead api (Capabilities c)) → IsWhole (asked_caps o)
+whole_asked api None r = refl
+whole_asked api (Some c) r = whole_setting api c r
 
 -- ---- what was read, written again
 -- each operation that was read is written so that it reads again
@@ -247,10 +241,10 @@ rows_outcome again api before total n info s header e =
     1 (rows_count api before total n info s header e)
 
 -- ---- the script that they say
-same_hints : (s : Settings) (n : ℕ) → s.peers ≡ Some n → hints_of (made_again s n) ≡ hints_of s
+same_hints : (s : Settings) (n : ℕ) → IsWhole (asked_caps s.caps) → s.peers ≡ Some n → hints_of (made_again s n) ≡ hints_of s
 unfolding hints_of
-same_hints s n e =
-    ap (λ (c : Caps). record no_hints { caps = c; peers = Some n; lane = s.lane; pool = s.pool; tx = s.tx; rx = s.rx; cq = s.cq }) (caps_kept (asked_caps s.caps))
+same_hints s n whole e =
+    ap (λ (c : Caps). record no_hints { caps = c; peers = Some n; lane = s.lane; pool = s.pool; tx = s.tx; rx = s.rx; cq = s.cq }) (caps_kept (asked_caps s.caps) whole)
     ∙ ap (λ (o : Option ℕ). record no_hints { caps = asked_caps s.caps; peers = o; lane = s.lane; pool = s.pool; tx = s.tx; rx = s.rx; cq = s.cq }) (sym e)
 
 said_by_rows : (api : Api) (count n : ℕ) (info : Info) (after : Before) → after.api ≡ Some api → after.settings.peers ≡ Some n → grant api (Some (hints_of after.settings)) ≡ Some info → script_said count after ≡ Ok (script_said_by api after n info)
@@ -275,7 +269,7 @@ reads_said again api before total n info s header e given =
     let end = o.goal in
     let count = length (lines_of (printed script)) in
     let read : read_lines nothing 1 (lines_of (printed script)) ≡ Ok o.after = text_read nothing 1 (rows_of script) o.after o.written o.reads in
-    let hints : hints_of o.after.settings ≡ hints_of before.settings = ap hints_of end.settings ∙ same_hints before.settings n e in
+    let hints : hints_of o.after.settings ≡ hints_of before.settings = ap hints_of end.settings ∙ same_hints before.settings n (whole_asked api before.settings.caps s.made.caps) e in
     let peers : o.after.settings.peers ≡ Some n = ap (λ (t : Settings). t.peers) end.settings in
     let grants : grant api (Some (hints_of o.after.settings)) ≡ Some info = ap (λ h. grant api (Some h)) hints ∙ given in
     let parts : map (map without_number) (parts_of n o.after.items) ≡ map (map without_number) (parts_of n before.items) =

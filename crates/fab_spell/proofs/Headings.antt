@@ -4,6 +4,7 @@ use Rattle.std.proofs.lemmas.Bool.{and_from}
 use Rattle.std.specs.List.{list_all}
 use Rattle.fab_base.specs.Offer.{limits_of}
 use Rattle.fab_base.specs.declared.caps.Api.{Api}
+use Rattle.fab_base.specs.declared.caps.Caps.{Caps}
 use Rattle.fab_base.specs.declared.limits.Limits.{Limits}
 use Rattle.fab_base.specs.declared.limits.Size.{Size}
 use Rattle.fab_base.specs.declared.limits.Size.TheVariants as size
@@ -23,7 +24,7 @@ use Rattle.fab_spell.specs.Headings.{caps_word, SettingRead, SettingAgain}
 use Rattle.fab_spell.proofs.Decimals.{read_number_again}
 use Rattle.fab_spell.proofs.Numbers.{is_word-decimal}
 use Rattle.fab_spell.proofs.Said.{text_said, said_by as made_of, both_said}
-use Rattle.fab_spell.proofs.CapsNames.{caps_again}
+use Rattle.fab_spell.proofs.CapsNames.{IsWhole, caps_again, whole_caps}
 
 alone : (word : List ℕ) → is_word word ≡ true → list_all is_word (word ∷ []) ≡ true
 alone word e = and_from (is_word word) true e refl
@@ -151,3 +152,11 @@ spelled api _ args s words e = cc
 
 pub setting_again : (api : Api) (s : Setting) → SettingRead api s → SettingAgain api s
 setting_again api s read = spelled api read.verb read.args s read.words read.reads
+
+-- a set of capabilities that was read is whole
+pub whole_setting : (api : Api) (c : Caps) → SettingRead api (Capabilities c) → IsWhole c
+unfolding setting_of caps_setting
+whole_setting api c read =
+    let made = made_of Capabilities (caps_of (caps_word c)) (Capabilities c) (setting_again api (Capabilities c) read).reads in
+    let same : made.0 ≡ c = cc in
+    subst IsWhole same (whole_caps (caps_word c) made.0 made.1)
