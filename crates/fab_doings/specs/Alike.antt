@@ -9,13 +9,10 @@ use Rattle.fab_base.specs.declared.operations.Written.{Written}
 use Rattle.fab_model.specs.Complete.{entry_of}
 use Rattle.fab_base.specs.Kinds.{is_message}
 use Rattle.fab_model.specs.Views.{seen}
-use Rattle.fab_laws.specs.Matched.{Event, Got, Mark, came, cancelled, made, tells_message, wish_of, wishes}
+use Rattle.fab_laws.specs.Matched.{Event, Got, Mark, came, cancelled, made, tells_message, wish_of, wishes, mark_at}
 use Rattle.fab_laws.specs.Claimed.{lost}
 use Rattle.fab_laws.specs.Members.{In}
 use Rattle.fab_laws.specs.Programs.{Peer, program}
-
-abbrev pub mark_at : ℕ → ℕ → Item → Mark
-mark_at source place item = record { source = source; place = place; head = item.head }
 
 pub record AreAlike (source : ℕ) (arrived : List Item) (past : List Event) (asked : List Receive) : Type 0 where
   -- none is for many messages, none takes a message that was claimed, and none was cancelled

@@ -94,9 +94,6 @@ start_walk_leads conf lists schedule steps states p v a last reached has more wa
     views.sound_walk_leads fabric n (Own n) (fabric_patient n) steps states p v a last sound has more walk
 
 module _ (ps : List Member) (k : ℕ) (a b : Member) (is_a : slice_get ps k ≡ Some a) (ended : Ended (told_of a) (told_of b)) where
-  here : k < length ps
-  here = slice_get_within ps k a is_a
-
   has : slice_get (actors ps) k ≡ Some (member_actor a)
   has = slice_get-map member_actor ps k ∙ ap (option_map member_actor) is_a
 
@@ -116,7 +113,7 @@ module _ (ps : List Member) (k : ℕ) (a b : Member) (is_a : slice_get ps k ≡ 
       let v = seen fabric (actors ps) k in
       let leads : Leads (rule fabric) (actors ps) (by k ended.steps) (slice_set (actors ps) k (member_actor b)) =
       start_walk_leads conf lists (schedules ps) ended.steps (actors ps) k v (member_actor a) (member_actor b) reached has (more_self v) (ended.walk v calm) in
-      let more = reached_more (opened conf lists) (actors ps) (slice_set (actors ps) k (member_actor b)) (schedules ps) k ended.steps (omega (arith, here, length-map ps member_steps)) reached leads in
+      let more = reached_more (opened conf lists) (actors ps) (slice_set (actors ps) k (member_actor b)) (schedules ps) k ended.steps (omega (arith, slice_get_within ps k a is_a, length-map ps member_steps)) reached leads in
       let states : slice_set (actors ps) k (member_actor b) ≡ actors (slice_set ps k b) = sym (map-set member_actor ps k b) in
       let logs : slice_get (schedules ps) k ≡ Some (member_steps a) = slice_get-map member_steps ps k ∙ ap (option_map member_steps) is_a in
       let own : slice_index_or (schedules ps) k [] ≡ member_steps a = get_or_from_slice_get (schedules ps) k (member_steps a) [] logs in

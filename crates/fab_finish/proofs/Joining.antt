@@ -98,9 +98,6 @@ ready_none ps k s none = ap (λ (o : Option Actor). option_map_or (λ (a : Actor
 -- ---- a turn
 
 module _ (ps : List Member) (k : ℕ) (a b : Member) (acts : List Act) (joined_ps : IsJoined ps) (is_a : slice_get ps k ≡ Some a) (turned : Turned (told_of a) (told_of b) acts) where
-  k_below : k < length ps
-  k_below = slice_get_within ps k a is_a
-
   own_a : IsOwn (length ps) (joined_ps.ins k) (joined_ps.outs k) a
   own_a = joined_ps.own k a is_a
 
@@ -118,7 +115,7 @@ module _ (ps : List Member) (k : ℕ) (a b : Member) (acts : List Act) (joined_p
       let came = (lane_at b.endpoint.port s).in_list in
       let out = (lane ps s k).out.frames in
       let m = (lane ps s k).moved in
-      let first : before ++ came ≡ joined_ps.outs s k ++ take m out = ap (λ fs. before ++ fs) (in_same s ∙ ap (λ (l : Lane). l.in_list) (sym (lane_is ps k s a is_a))) ∙ joined_ps.came s k k_below in
+      let first : before ++ came ≡ joined_ps.outs s k ++ take m out = ap (λ fs. before ++ fs) (in_same s ∙ ap (λ (l : Lane). l.in_list) (sym (lane_is ps k s a is_a))) ∙ joined_ps.came s k (slice_get_within ps k a is_a) in
       let taken : (before ++ (in_of a.endpoint.port s).taken) ++ taken_of s acts ≡ before ++ take n came =
       append_assoc before (in_of a.endpoint.port s).taken (taken_of s acts) ∙ ap (λ fs. before ++ fs) (sym (turned.ported.taken s)) in
       let whole : (before ++ take n came) ++ drop n came ≡ before ++ came = append_assoc before (take n came) (drop n came) ∙ ap (λ fs. before ++ fs) (take-append-drop n came) in (
@@ -138,7 +135,7 @@ module _ (ps : List Member) (k : ℕ) (a b : Member) (acts : List Act) (joined_p
           let front = came_front s in
           let out : joined_ps.outs s k ++ (lane ps s k).out.frames ≡ joined_ps.outs s k ++ (out_of p.endpoint.port k).frames = ap (λ (l : Lane). joined_ps.outs s k ++ l.out.frames) (lane_is ps s k p has) in
           let r = shown_of (accepted_for p.endpoint.held.state.tx k) (slice_index p.endpoint.held.state.tx.sent k) (joined_ps.outs s k ++ (out_of p.endpoint.port k).frames) (joined_ps.ins k s ++ (in_of a.endpoint.port s).taken) (taken_of s acts) front.0
-          (begun_of a.endpoint.held s) (slice_index a.endpoint.held.state.rx.tails s) (own.agrees.cut k k_below) (posted_first (length ps) p.endpoint.held _ _ k own.agrees) (own.agrees.sent k) (front.1 ∙ out)
+          (begun_of a.endpoint.held s) (slice_index a.endpoint.held.state.rx.tails s) (own.agrees.cut k (slice_get_within ps k a is_a)) (posted_first (length ps) p.endpoint.held _ _ k own.agrees) (own.agrees.sent k) (front.1 ∙ out)
           (own_a.agrees.begun s) (own_a.agrees.tails s) in (
             subst (λ items. AreFirst (joined_from (begun_of a.endpoint.held s) (taken_of s acts)) (drop (slice_index a.endpoint.held.state.rx.tails s) items)) (sym (ready_is ps k s p has)) r.0,
             subst (λ n. slice_index a.endpoint.held.state.rx.tails s + length (joined_from (begun_of a.endpoint.held s) (taken_of s acts)).whole ≤ n) (sym (sent_is ps k s p has)) r.1,
@@ -167,7 +164,7 @@ module _ (ps : List Member) (k : ℕ) (a b : Member) (acts : List Act) (joined_p
       let logs : slice_get (schedules ps) k ≡ Some (member_steps a) = slice_get-map member_steps ps k ∙ ap (option_map member_steps) is_a in
       let leads : Leads (rule fabric) (actors ps) (by k steps) (slice_set (actors ps) k (member_actor b)) =
       walk_leads steps (actors ps) k (view_of ps k) (member_actor a) (member_actor b) has refl (more_of ps k) (turned.walk (view_of ps k) shows) in
-      let more = reached_more first (actors ps) (slice_set (actors ps) k (member_actor b)) (schedules ps) k steps (omega (arith, k_below, length-map ps member_steps)) reached leads in
+      let more = reached_more first (actors ps) (slice_set (actors ps) k (member_actor b)) (schedules ps) k steps (omega (arith, slice_get_within ps k a is_a, length-map ps member_steps)) reached leads in
       let states : slice_set (actors ps) k (member_actor b) ≡ actors qs = sym (map-set member_actor ps k b) in
       let own : slice_index_or (schedules ps) k [] ≡ member_steps a = get_or_from_slice_get (schedules ps) k (member_steps a) [] logs in
       let grown : slice_set (schedules ps) k (slice_index_or (schedules ps) k [] ++ steps) ≡ schedules qs =
@@ -204,7 +201,7 @@ module _ (ps : List Member) (k : ℕ) (a b : Member) (acts : List Act) (joined_p
   in_kept : (j d : ℕ) → (lane (slice_set ps k b) j d).in_list ≡ (lane ps j d).in_list
   in_kept j d = elim (cases_eq j k) [
     | inl here ↦ subst (λ i. (lane (slice_set ps k b) i d).in_list ≡ (lane ps i d).in_list) (sym here)
-        (ap (λ (l : Lane). l.in_list) (lane_own ps k d b k_below) ∙ in_same d ∙ ap (λ (l : Lane). l.in_list) (sym (lane_is ps k d a is_a)))
+        (ap (λ (l : Lane). l.in_list) (lane_own ps k d b (slice_get_within ps k a is_a)) ∙ in_same d ∙ ap (λ (l : Lane). l.in_list) (sym (lane_is ps k d a is_a)))
     | inr there ↦ ap (λ (l : Lane). l.in_list) (lane_other ps k j d b there)
   ]
 
@@ -212,7 +209,7 @@ module _ (ps : List Member) (k : ℕ) (a b : Member) (acts : List Act) (joined_p
   out_kept : (j d : ℕ) → take (lane (slice_set ps k b) j d).moved (lane (slice_set ps k b) j d).out.frames ≡ take (lane ps j d).moved (lane ps j d).out.frames
   out_kept j d = elim (cases_eq j k) [
     | inl here ↦ subst (λ i. take (lane (slice_set ps k b) i d).moved (lane (slice_set ps k b) i d).out.frames ≡ take (lane ps i d).moved (lane ps i d).out.frames) (sym here)
-        (ap (λ (l : Lane). take l.moved l.out.frames) (lane_own ps k d b k_below) ∙ ap (λ n. take n (out_of b.endpoint.port d).frames) (moved_same d)
+        (ap (λ (l : Lane). take l.moved l.out.frames) (lane_own ps k d b (slice_get_within ps k a is_a)) ∙ ap (λ n. take n (out_of b.endpoint.port d).frames) (moved_same d)
         ∙ ap (take (lane_at a.endpoint.port d).moved) (turned.ported.posted d) ∙ front_same (lane_at a.endpoint.port d).moved (out_of a.endpoint.port d).frames (posted_to d acts) (own_a.moved d)
         ∙ ap (λ (l : Lane). take l.moved l.out.frames) (sym (lane_is ps k d a is_a)))
     | inr there ↦ ap (λ (l : Lane). take l.moved l.out.frames) (lane_other ps k j d b there)
@@ -228,7 +225,7 @@ module _ (ps : List Member) (k : ℕ) (a b : Member) (acts : List Act) (joined_p
         few = omega (arith, long, joined_ps.few);
         own = λ j p has. subst (λ n. IsOwn n (joined_ps.ins j) (joined_ps.outs j) p) (sym long) (elim (cases_eq j k) [
           | inl here ↦ (
-              let is : Some p ≡ Some b = sym has ∙ ap (slice_get (slice_set ps k b)) here ∙ slice_get-set_same ps k b k_below in
+              let is : Some p ≡ Some b = sym has ∙ ap (slice_get (slice_set ps k b)) here ∙ slice_get-set_same ps k b (slice_get_within ps k a is_a) in
               let same : p ≡ b = cc in
               subst (λ i. IsOwn (length ps) (joined_ps.ins i) (joined_ps.outs i) p) (sym here) (subst (λ (x : Member). IsOwn (length ps) (joined_ps.ins k) (joined_ps.outs k) x) (sym same) (own_b log counted)))
           | inr there ↦ joined_ps.own j p (sym (slice_get-set_other ps k j b (λ e. there (sym e))) ∙ has)

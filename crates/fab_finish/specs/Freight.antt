@@ -10,6 +10,7 @@ use Rattle.fab_link.specs.Plain.{Plain, lane_at, left, in_of}
 use Rattle.fab_face.specs.Held.{Held, next_item}
 use Rattle.fab_laws.specs.Work.{total, work}
 use Rattle.fab_finish.specs.Joined.{Member, actors}
+pub use Rattle.fab_base.specs.Many.{bit as one_if}
 
 abbrev pub to_go : Option Item → ℕ → ℕ
 to_go None place = 0
@@ -29,10 +30,6 @@ member_freight n p = 3 * to_post n p.endpoint.held + 2 * out_left n p.endpoint.p
 
 unfoldable pub freight : List Member → ℕ
 freight ps = total (λ k. option_map_or (member_freight (length ps)) (slice_get ps k) 0) (length ps)
-
-abbrev pub one_if : Bool → ℕ
-one_if true = 1
-one_if false = 0
 
 abbrev pub Lowers : Bool → Bool → List Member → List Member → Type 0
 Lowers true moved ps qs = work (actors qs) + 1 ≤ work (actors ps)

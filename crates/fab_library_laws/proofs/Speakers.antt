@@ -81,6 +81,11 @@ choice_then : (b : Bool) (o : Order) (xs : List Order) → cond b (o ∷ []) [] 
 choice_then true o xs = refl
 choice_then false o xs = refl
 
+-- what the first endpoint is granted, all are
+pub directed_by : (info : Info) (selective : Bool) (first : Whole RingPort) (rest : List (Whole RingPort)) → AreOpened info selective (first ∷ rest) → has (ring_seen first).held.state.caps cap.DirectedRecv ≡ true → has info.caps cap.DirectedRecv ≡ true
+unfolding ring_seen
+directed_by info selective first rest all directed = sym (ap (λ (e : Whole RingPort). has e.held.state.caps cap.DirectedRecv) (all.opened 0 first (omega arith))) ∙ directed
+
 module _ (n d : ℕ) (lt : d < n) (s : State) (av : s.av ≡ map Some (upto n)) where
   chosen_is : (o : Order) (x : Option ℕ) → lookup s.av o.dest ≡ x → chosen d o x ≡ cond (o.dest == d) (o ∷ []) []
   chosen_is o None e = by (o.dest == d) refl

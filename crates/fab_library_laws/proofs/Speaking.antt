@@ -26,13 +26,9 @@ use Rattle.fab_doings.specs.Recording.{IsRecorded, called}
 use Rattle.fab_doings.proofs.Applying.{late_recorded, late_not_recorded, progresses_recorded, same_recorded, sends_recorded, sends_not_recorded, waits_recorded}
 use Rattle.fab_doings.proofs.Recording.{recorded_then}
 use Rattle.fab_library_laws.specs.Speaking.{Comes, Hears, IsAt, IsPart, Keeps, Speaks, messages, order_in, reads_by}
+use Rattle.fab_laws.proofs.Counts.{in_split as in_either}
 
 -- ---- parts
-
-pub in_either : {X : Type 0} (x : X) (xs ys : List X) → In x (xs ++ ys) → In x xs ⊎ In x ys
-in_either x [] ys i = inr i
-in_either x (y ∷ xs) ys (inl e) = inl (inl e)
-in_either x (y ∷ xs) ys (inr i) = elim (in_either x xs ys i) [ inl j ↦ inl (inr j) | inr j ↦ inr j ]
 
 only_one : (x : Doing) → IsSimple x → (z : Doing) → In z (x ∷ []) → IsSimple z
 only_one x simple z (inl e) = subst (λ (y : Doing). IsSimple y) (sym e) simple

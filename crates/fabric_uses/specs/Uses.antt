@@ -33,6 +33,7 @@ use Rattle.fabric.specs.State.{Completions, Region, State, in_use, lookup}
 use Rattle.fabric.specs.Trying.{SendsLate}
 use Rattle.fabric.specs.Words.{Again, Arrival, Busy, Entry, ErrEntry, Fault, Inject, Lacks, Lane, Msg, Next, PolledEntry, Receive, Received, Success, Taken, Transmit, TryFault, TryRefused, TxFull}
 use Rattle.fabric_uses.specs.declared.receiving.Cut.{Cut}
+pub use Rattle.fabric.specs.Cleared.{is_again}
 
 -- ---- completions
 
@@ -85,10 +86,6 @@ abbrev pub SendsInTime : {Home : Type 0} → Bool → ℕ → List ℕ → ℕ �
 SendsInTime fixed dest bytes ctx old new = SendsLate fixed (message Msg (Some ctx) dest 0 bytes None Transmit true false) dest old new
 
 -- ---- refusals
-
-abbrev pub is_again : Fault → Bool
-is_again (Again busy) = true
-is_again _ = false
 
 abbrev pub is_tx : Busy → Bool
 is_tx (TxFull n) = true

@@ -1,8 +1,7 @@
 -- What came to each peer is the first of what the other was given to send.
-use Rattle.std.proofs.Common.{◌≡◌, ◌+◌, ◌<◌, ◌≤◌, ℕ, zero, suc, Bool, true, false, not, ◌&&◌, ◌==◌, List, [], ◌∷◌, ◌++◌, length, length-append, map, Option, None, Some, Result, Ok, Err, inl, inr, refl, sym, ap, ◌∙◌, subst, arith, append-nil, append_assoc}
+use Rattle.std.proofs.Common.{◌≡◌, ◌+◌, ◌<◌, ◌≤◌, ℕ, zero, suc, Bool, true, false, not, ◌&&◌, ◌==◌, List, [], ◌∷◌, ◌++◌, length, length-append, map, Option, None, Some, Result, Ok, Err, inl, inr, refl, sym, ap, ◌∙◌, subst, arith, append-nil}
 use Rattle.std.specs.Prelude.{OnOk, cond, filter, slice_get}
 use Rattle.std.specs.List.{All}
-use Rattle.std.proofs.lemmas.Bool.{eq-eqb}
 use Rattle.fabric.specs.Closing.{AreLeft, endpoints_of}
 use Rattle.fabric.specs.Domain.{AreOpened}
 use Rattle.fabric.specs.Held.{Seen}
@@ -17,11 +16,11 @@ use Rattle.fabric.specs.Speakers.{Endpoint, HaveRoom, Picks, Speaker, opened_by,
 use Rattle.fabric.specs.Views.{IsPrefixOf}
 use Rattle.fabric.specs.Words.{Fault, Info}
 use Rattle.fabric.proofs.Lists.{in_front, mapped, never}
-use Rattle.fabric.proofs.Speakers.{hears, speakers_end, speakers_left}
+use Rattle.fabric.proofs.Views.{prefix_prefix}
+use Rattle.fabric.proofs.Speakers.{hears, speakers_end, speakers_left, directed_by}
 use Rattle.hello_threads.specs.declared.stream.Told.{Told}
 use Rattle.hello_threads.specs.Stream.{AreBoth, IsAsk, IsShort, Runs, Talks, line}
-use Rattle.fab_base.specs.declared.caps.Cap.TheVariants as cap
-use Rattle.fab_base.specs.Granted.{has}
+use Rattle.fabric.proofs.Numbers.{same_number}
 
 -- ---- lists
 
@@ -32,9 +31,6 @@ whole xs ys (z ∷ zs, is) long =
     let same = ap length is in
     absurd (omega (arith, long, more, same))
 
-first_of_first : {X : Type 0} (xs ys zs : List X) → IsPrefixOf xs ys → IsPrefixOf ys zs → IsPrefixOf xs zs
-first_of_first xs ys zs (us, is) (vs, are) = (us ++ vs, sym (append_assoc xs us vs) ∙ ap (λ ws. ws ++ vs) is ∙ are)
-
 short_in : (texts : List (List ℕ)) → All IsShort texts → (text : List ℕ) → In text texts → IsShort text
 short_in [] all text i = never i
 short_in (t ∷ texts) all text (inl e) = subst (λ (u : List ℕ). IsShort u) (sym e) (all 0 t (omega arith))
@@ -44,18 +40,15 @@ on_ok : {A B : Type 0} (r : Result (Unit {0}) Fault) → (A → B) → OnOk r A 
 on_ok (Ok done) f a = f a
 on_ok (Err why) f a = tt
 
-same : (n : ℕ) → (n == n) ≡ true
-same n = eq-eqb n n refl
-
 -- ---- what is said to a peer
 
 wants_line : (p q : ℕ) (text : List ℕ) → wanted (want_for p false 0 0) p (line q text) ≡ true
-wants_line p q text = ap (λ (b : Bool). b && true) (same p)
+wants_line p q text = ap (λ (b : Bool). b && true) (same_number p)
 
 lines_said : (p q : ℕ) (said : List (List ℕ)) → map bytes_of (filter (wanted (want_for p false 0 0) p) (filter (λ (o : Order). o.dest == q) (map (line q) said))) ≡ said
 lines_said p q [] = refl
 lines_said p q (text ∷ said) =
-    ap (λ (b : Bool). map bytes_of (filter (wanted (want_for p false 0 0) p) (cond b (line q text ∷ filter (λ (o : Order). o.dest == q) (map (line q) said)) (filter (λ (o : Order). o.dest == q) (map (line q) said))))) (same q)
+    ap (λ (b : Bool). map bytes_of (filter (wanted (want_for p false 0 0) p) (cond b (line q text ∷ filter (λ (o : Order). o.dest == q) (map (line q) said)) (filter (λ (o : Order). o.dest == q) (map (line q) said))))) (same_number q)
     ∙ ap
     (λ (b : Bool). map bytes_of (cond b (line q text ∷ filter (wanted (want_for p false 0 0) p) (filter (λ (o : Order). o.dest == q) (map (line q) said))) (filter (wanted (want_for p false 0 0) p) (filter (λ (o : Order). o.dest == q) (map (line q) said)))))
     (wants_line p q text)
@@ -93,19 +86,15 @@ module _ (zero_texts one_texts : List (List ℕ)) (all left : List Endpoint) (to
     pub ends : endpoints_of (threads_by speakers) ≡ left
     ends = speakers_end info selective speakers opened_so ∙ sym both.leaves
 
-    is_directed : has info.caps cap.DirectedRecv ≡ true
-    unfolding ring_seen
-    is_directed = sym (ap (λ (x : Endpoint). (has x.held.state.caps cap.DirectedRecv)) (opened_so.opened 0 both.opened_zero (omega arith))) ∙ both.directed
-
     module _ (law : LibraryHears) (run : IsLibraryRun (opened_by speakers) (threads_by speakers)) where
       one_way :
           (p q : ℕ) (texts others : List (List ℕ)) (many few : ℕ) (e f g h : Endpoint) (told heard : Told) (from : Runs q texts many (ring_seen e) (ring_seen f) told) (to : Runs p others few (ring_seen g) (ring_seen h) heard)
           → slice_get speakers p ≡ Some (peer_of q texts many e f told from) → slice_get speakers q ≡ Some (peer_of p others few g h heard to) → All IsShort texts → IsPrefixOf heard.came.items texts
       one_way p q texts others many few e f g h told heard from to at_p at_q short =
-          let first = hears info selective speakers opened_so is_directed p q (peer_of q texts many e f told from) (peer_of p others few g h heard to) at_p at_q false 0 0 (λ ctx. true)
+          let first = hears info selective speakers opened_so (directed_by info selective both.opened_zero (both.opened_one ∷ []) opened_so both.directed) p q (peer_of q texts many e f told from) (peer_of p others few g h heard to) at_p at_q false 0 0 (λ ctx. true)
           (picks p (ring_seen g) (ring_seen h) to.said heard.came.items to.talks) (have_room p q (ring_seen g) (ring_seen h) to.said heard.came.items to.talks texts from.said from.first short) law run in
           let came = subst (λ (ms : List (List ℕ)). IsPrefixOf ms (map bytes_of (filter (wanted (want_for p false 0 0) p) (filter (λ (o : Order). o.dest == q) (map (line q) from.said))))) to.talks.heard first in
-          first_of_first heard.came.items from.said texts (subst (λ (ms : List (List ℕ)). IsPrefixOf heard.came.items ms) (lines_said p q from.said) came) from.first
+          prefix_prefix heard.came.items from.said texts (subst (λ (ms : List (List ℕ)). IsPrefixOf heard.came.items ms) (lines_said p q from.said) came) from.first
 
       module _ (zero_short : All IsShort zero_texts) (one_short : All IsShort one_texts) where
         pub to_zero : IsPrefixOf told_zero.came.items one_texts

@@ -22,10 +22,6 @@ pub lacks_memory : {T : Type 0} (r : Result T Error) (P : Type 0) → IsErrAnd r
 lacks_memory (Ok value) P is p = tt
 lacks_memory (Err why) P is p = (is, p)
 
-pub on_err : {T E : Type 0} (r : Result T E) (P : Type 0) → P → OnErr r P
-on_err (Ok value) P is = tt
-on_err (Err why) P is = is
-
 -- of one that a wait tells
 pub told_lacks : {T : Type 0} (r : Result T Failed) (why : Error) → IsErrAnd r (λ e. e ≡ record { why = why; buf = None }) → why ≡ NoMem → r ≡ Err lacks
 told_lacks (Ok value) why is same = absurd is

@@ -5,7 +5,7 @@
 --     TriesSend, TriesReceive               one try, by what came of it: accepted; refused for now, and the same call is back; or refused for good, and its buffer is back
 --     BeginsSend, BeginsReceive             it is accepted where none waits; else it waits, behind all that do
 use Rattle.std.specs.Prelude.{◌≡◌, ◌≢◌, ◌⊎◌, Bool, true, false, List, [], ◌∷◌, ◌++◌, None, Some}
-use Rattle.fabric.specs.Words.{Fault, Again, TagMsg}
+use Rattle.fabric.specs.Words.{Fault, TagMsg}
 use Rattle.fabric.specs.Calls.{Call, message}
 use Rattle.fabric.specs.Held.{Seen}
 use Rattle.fabric.specs.Answers.{Sends, SendsNot, receive_call}
@@ -17,6 +17,7 @@ use Rattle.mini_mpi.specs.declared.begun.Sending.{Sending}
 use Rattle.mini_mpi.specs.declared.begun.Receiving.{Receiving}
 use Rattle.mini_mpi.specs.declared.posting.Tried.{Tried}
 use Rattle.mini_mpi.specs.declared.posting.Tried.TheVariants.{Accepted, Later, Never}
+pub use Rattle.fabric.specs.Cleared.{is_again as is_later}
 
 -- it completes, at its level, and minds no fence
 abbrev pub send_call : Sending → Call
@@ -24,10 +25,6 @@ send_call send = message TagMsg (Some send.id) send.dest send.tag send.buf None 
 
 abbrev pub ask_call : Receiving → Call
 ask_call receive = receive_call true receive.source (wanted receive.tag).0 (wanted receive.tag).1 receive.buf None receive.id
-
-abbrev pub is_later : Fault → Bool
-is_later (Again busy) = true
-is_later _ = false
 
 module _ {Home : Type 0} where
   abbrev pub Sent : Bool → Sending → Seen Home → Seen Home → Type 0

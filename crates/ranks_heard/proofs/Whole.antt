@@ -1,8 +1,8 @@
 -- What came to the receive of rank 1 is the first text that rank 1 was given under its tag.
-use Rattle.std.proofs.Common.{◌≡◌, ◌≤◌, ℕ, zero, suc, Bool, true, false, not, ◌&&◌, ◌||◌, ◌==◌, List, [], ◌∷◌, ◌++◌, length, map, Option, None, Some, inl, inr, refl, sym, ap, ◌∙◌, subst, arith, append-nil, append_assoc}
+use Rattle.std.proofs.Common.{◌≡◌, ◌≤◌, ℕ, zero, suc, Bool, true, false, not, ◌&&◌, ◌||◌, ◌==◌, List, [], ◌∷◌, ◌++◌, length, map, Option, None, Some, inl, inr, refl, sym, ap, ◌∙◌, subst, arith, append-nil}
 use Rattle.std.specs.Prelude.{bit_or, cond, filter}
 use Rattle.std.specs.List.{All}
-use Rattle.std.proofs.lemmas.Bool.{eq-eqb, eqb-true}
+use Rattle.std.proofs.lemmas.Bool.{and_right, eq-eqb, eqb-true}
 use Rattle.std.proofs.lemmas.List.{map-append}
 use Rattle.std.proofs.lemmas.List.Elements.{filter-append}
 use Rattle.std.specs.Int.Bits.{or_zero_r}
@@ -21,18 +21,15 @@ use Rattle.fabric.specs.Speakers.{Endpoint, HaveRoom, IsApart, Picks, Speaker, o
 use Rattle.fabric.specs.Views.{IsPrefixOf}
 use Rattle.fabric.specs.Words.{Info, ItemHead}
 use Rattle.fabric.proofs.Lists.{in_front, mapped, never}
-use Rattle.fabric.proofs.Speakers.{hears, speakers_end, speakers_left}
+use Rattle.fabric.proofs.Views.{prefix_prefix}
+use Rattle.fabric.proofs.Speakers.{hears, speakers_end, speakers_left, directed_by}
 use Rattle.ranks_heard.specs.declared.rank.TheConstants.{ANY, ONE}
 use Rattle.ranks_heard.specs.declared.rank.Line.{Line}
 use Rattle.ranks_heard.specs.declared.rank.Told.{Told}
 use Rattle.ranks_heard.specs.Ranks.{AreFour, IsAny, IsAsk, IsNamed, IsShort, Runs, Talks, is_one, order_of, under}
-use Rattle.fab_base.specs.declared.caps.Cap.TheVariants as cap
-use Rattle.fab_base.specs.Granted.{has}
+use Rattle.fabric.proofs.Bools.{and_true_right}
 
 -- ---- lists
-
-first_of_first : {X : Type 0} (xs ys zs : List X) → IsPrefixOf xs ys → IsPrefixOf ys zs → IsPrefixOf xs zs
-first_of_first xs ys zs (us, is) (vs, are) = (us ++ vs, sym (append_assoc xs us vs) ∙ ap (λ ws. ws ++ vs) is ∙ are)
 
 under_first : (tag : ℕ) (said lines : List Line) → IsPrefixOf said lines → IsPrefixOf (under tag said) (under tag lines)
 under_first tag said lines (rest, is) = (
@@ -45,14 +42,6 @@ short_in : (lines : List Line) → All IsShort lines → (line : Line) → In li
 short_in [] all line i = never i
 short_in (l ∷ lines) all line (inl e) = subst (λ (m : Line). IsShort m) (sym e) (all 0 l (omega arith))
 short_in (l ∷ lines) all line (inr i) = short_in lines (λ k d lt. all (suc k) d (omega (arith, lt))) line i
-
-right_of : (a b : Bool) → (a && b) ≡ true → b ≡ true
-right_of true b both = both
-right_of false b both = absurd (cc (both))
-
-never_both : (a b : Bool) → b ≡ false → (a && b) ≡ false
-never_both true b out = out
-never_both false b out = refl
 
 -- ---- what rank 0 asks for
 
@@ -71,8 +60,8 @@ other_tag tag other head differ is = by (bit_or other 0 == bit_or head 0) refl
 
 any_apart : (q : Posting) → IsAny q → IsApart (want_for 1 true ONE 0) q
 any_apart q any source t head is =
-    let tags : (bit_or ANY 0 == bit_or head.tag 0) ≡ false = other_tag ONE ANY head.tag refl (right_of _ _ is) in
-    (λ i. matches (record { tagged = any.tagged_so i; tag = any.tag_is i; ignore = any.ignores i; source = source }) t head) ∙ never_both _ _ tags
+    let tags : (bit_or ANY 0 == bit_or head.tag 0) ≡ false = other_tag ONE ANY head.tag refl (and_true_right _ _ is) in
+    (λ i. matches (record { tagged = any.tagged_so i; tag = any.tag_is i; ignore = any.ignores i; source = source }) t head) ∙ and_right _ _ tags
 
 picks : {Home : Type 0} (old new : Seen Home) (said : List Line) (came : List (List ℕ)) (h : Talks old new said came) → Picks 1 true ONE 0 is_one h.asks
 picks old new said came h = record {
@@ -136,14 +125,10 @@ module _ (one_lines : List Line) (all left : List Endpoint) (told : Told) (four 
     pub ends : endpoints_of (threads_by speakers) ≡ left
     ends = speakers_end info selective speakers opened_so ∙ sym four.leaves
 
-    is_directed : has info.caps cap.DirectedRecv ≡ true
-    unfolding ring_seen
-    is_directed = sym (ap (λ (x : Endpoint). (has x.held.state.caps cap.DirectedRecv)) (opened_so.opened 0 four.opened_zero (omega arith))) ∙ four.directed
-
     pub heard_first : LibraryHears → IsLibraryRun (opened_by speakers) (threads_by speakers) → All IsShort one_lines → IsPrefixOf told.came.items (under ONE one_lines)
     heard_first law run short =
-        let got = hears info selective speakers opened_so is_directed 1 0 first zeroth refl refl true ONE 0 is_one
+        let got = hears info selective speakers opened_so (directed_by info selective four.opened_zero (four.opened_one ∷ four.opened_two ∷ four.opened_three ∷ []) opened_so four.directed) 1 0 first zeroth refl refl true ONE 0 is_one
         (picks (ring_seen four.opened_zero) (ring_seen four.left_zero) four.runs_zero.said told.came.items four.runs_zero.talks)
         (have_room (ring_seen four.opened_zero) (ring_seen four.left_zero) four.runs_zero.said told.came.items four.runs_zero.talks one_lines four.runs_one.said four.runs_one.first short) law run in
         let came = subst (λ (ms : List (List ℕ)). IsPrefixOf ms (map bytes_of (filter (wanted (want_for 1 true ONE 0) 1) (filter (λ (o : Order). o.dest == 0) (map order_of four.runs_one.said))))) four.runs_zero.talks.heard got in
-        first_of_first told.came.items (under ONE four.runs_one.said) (under ONE one_lines) (subst (λ (ms : List (List ℕ)). IsPrefixOf told.came.items ms) (lines_told four.runs_one.said) came) (under_first ONE four.runs_one.said one_lines four.runs_one.first)
+        prefix_prefix told.came.items (under ONE four.runs_one.said) (under ONE one_lines) (subst (λ (ms : List (List ℕ)). IsPrefixOf told.came.items ms) (lines_told four.runs_one.said) came) (under_first ONE four.runs_one.said one_lines four.runs_one.first)

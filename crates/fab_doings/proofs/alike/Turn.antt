@@ -4,7 +4,7 @@ use Rattle.fab_base.specs.declared.items.Item.{Item}
 use Rattle.fab_base.specs.declared.operations.Receive.{Receive}
 use Rattle.fab_base.specs.Kinds.{is_message}
 use Rattle.fab_laws.specs.Members.{Ahead, In, Never}
-use Rattle.fab_laws.specs.Matched.{Came, Cancelled, CancelledBefore, Event, Got, Lost, Made, Mark, Wish, came, cancelled, closed, made, wish_of, wishes}
+use Rattle.fab_laws.specs.Matched.{Came, Cancelled, CancelledBefore, Event, Got, Lost, Made, Mark, Wish, came, cancelled, closed, made, wish_of, wishes, mark_at}
 use Rattle.fab_laws.specs.Claimed.{lost}
 use Rattle.fab_laws.specs.MatchingLaws.{GetsRightly, ServesInOrder, TakesInOrder}
 use Rattle.fab_laws.proofs.Lists.{ahead_in, in_back, in_middle, map_append, mapped, never, ahead_middle as ahead_of_rest}
@@ -12,7 +12,7 @@ use Rattle.fab_laws.proofs.matching.Earlier.{closed_got}
 use Rattle.fab_laws.proofs.receiving.Holding.{gone_how as gone_got}
 use Rattle.fab_laws.proofs.receiving.Telling.{splits as in_split}
 use Rattle.fab_merging.proofs.Lists.{member}
-use Rattle.fab_doings.specs.Alike.{AreAlike, mark_at}
+use Rattle.fab_doings.specs.Alike.{AreAlike}
 
 -- ---- members
 

@@ -16,7 +16,7 @@ use Rattle.fab_model.proofs.Parts.{some_same}
 use Rattle.fab_laws.specs.Members.{Ahead, In, Never}
 use Rattle.fab_laws.specs.Programs.{Counts, Deed, Draw, Head, Makes, Peer, Tail, program}
 use Rattle.fab_laws.specs.Claimed.{Handling, aside_of, call_in, handles}
-use Rattle.fab_laws.specs.Matched.{Came, Cancelled, Event, Got, Made, Mark, arrives, came, cancel_of, cancels, fate, goes_into, happens, is_posted, left, made, makes, mark_of, new_entry, noticed, parted, posting_of, taken_now, wish_of}
+use Rattle.fab_laws.specs.Matched.{Came, Cancelled, Event, Got, Made, Mark, arrives, came, cancel_of, cancels, fate, goes_into, happens, is_posted, left, made, makes, mark_of, new_entry, noticed, parted, posting_of, taken_now, wish_of, mark_at}
 use Rattle.fab_laws.specs.MatchingLaws.{GetsRightly}
 use Rattle.fab_laws.specs.MessageLaws.{asked_by, asks_for}
 use Rattle.fab_laws.specs.StreamLaws.{arriving}
@@ -29,7 +29,6 @@ use Rattle.fab_laws.proofs.receiving.Placing.{Give, Join, Rows, Seat, Stay, rows
 use Rattle.fab_laws.proofs.streams.Told.{Stands}
 use Rattle.fab_laws.proofs.Counts.{in_split as either}
 use Rattle.fab_laws.proofs.receiving.Telling.{splits as in_split}
-use Rattle.fab_doings.specs.Alike.{mark_at}
 use Rattle.fab_doings.proofs.alike.Turn.{came_append, made_append, which}
 
 pub record Alert (source : ℕ) (arrived : List Item) (past : List Event) (asked : List Receive) (s : State) : Type 0 where

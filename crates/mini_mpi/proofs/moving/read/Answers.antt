@@ -1,7 +1,8 @@
 use Rattle.std.proofs.Common.{Err, refl, sym, ◌∙◌, inl, inr}
 use Rattle.std.proofs.lemmas.List.{append-nil}
 use Rattle.mini_mpi.specs.Going.{rank_of}
-use Rattle.mini_mpi.proofs.Going.{goes_once, keeps_ended, lacks_memory, on_err, stays}
+use Rattle.mini_mpi.proofs.Going.{goes_once, keeps_ended, lacks_memory, stays}
+use Rattle.fabric.proofs.Options.{on_err}
 use Rattle.mini_mpi.proofs.moving.read.Goals as goal
 
 pub returns-in_err-polled-clause-err : goal.returns-in_err-polled-clause-err
