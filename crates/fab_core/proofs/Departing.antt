@@ -22,10 +22,12 @@ use Rattle.fab_rx.specs.Claims.{claiming_first, discarding, dropping, seen, taki
 use Rattle.fab_rx.specs.Stored.{turned}
 use Rattle.fab_tx.specs.Transit.{Transit}
 use Rattle.fab_face.specs.Owed.{is_due}
-use Rattle.fab_core.specs.Parts.{IsFitting, IsTogether, Parts, bit, count_of, due_for, is_owed, is_owed_aside, owed}
+use Rattle.fab_base.specs.Many.{bit, many}
+use Rattle.fab_core.specs.Parts.{IsFitting, IsTogether, Parts, due_for, is_owed, is_owed_aside, owed}
 use Rattle.fab_settling.specs.Ends.{booked}
 use Rattle.fab_settling.specs.Looks.{is_due_now}
-use Rattle.fab_core.proofs.Owing.{count_last, count_without, either_is}
+use Rattle.fab_model.proofs.Removing.{many_removed}
+use Rattle.fab_core.proofs.Owing.{count_last, either_is}
 use Rattle.fab_core.proofs.Together.{booked_rooms, sent_booked, together_with}
 
 -- what still comes of a message goes to no other place than these
@@ -84,7 +86,7 @@ module _ (v : Arriving) (a : Arrival) (partly : PartlyIn v a) (c : Coming) (way 
 
   -- after the message left
   module _ (w : Arriving) (begun : w.begun ≡ v.begun) (coming : w.rx.coming ≡ comes a.bytes)
-      (counted : (s : ℕ) → count_of (is_owed s) v.rx.unexpected + count_of (is_owed_aside s) v.rx.claimed ≡ bit (is_owed s a) + count_of (is_owed s) w.rx.unexpected + count_of (is_owed_aside s) w.rx.claimed) where
+      (counted : (s : ℕ) → many (is_owed s) v.rx.unexpected + many (is_owed_aside s) v.rx.claimed ≡ bit (is_owed s a) + many (is_owed s) w.rx.unexpected + many (is_owed_aside s) w.rx.claimed) where
     pub owed_left : (s : ℕ) → owed s v ≡ bit (due_to s a.bytes a) + owed s w
     owed_left s =
         let due : due_for (coming_from w.rx s) (begun_of w s) ≡ due_for (get_or (comes a.bytes) s None) (begun_of v s) = rw (coming, begun) refl in
@@ -99,18 +101,18 @@ module _ (v : Arriving) (a : Arrival) (partly : PartlyIn v a) (c : Coming) (way 
 
 module _ (v : Arriving) (s : ℕ) where
   pub count_found : (want : Want) (a : Arrival) → find (takes want) v.rx.unexpected ≡ Some a
-      → count_of (is_owed s) v.rx.unexpected + count_of (is_owed_aside s) v.rx.claimed ≡ bit (is_owed s a) + count_of (is_owed s) (remove_first (takes want) v.rx.unexpected) + count_of (is_owed_aside s) v.rx.claimed
-  count_found want a found = (let c = count_without (is_owed s) (takes want) v.rx.unexpected a found in omega (arith, c))
+      → many (is_owed s) v.rx.unexpected + many (is_owed_aside s) v.rx.claimed ≡ bit (is_owed s a) + many (is_owed s) (remove_first (takes want) v.rx.unexpected) + many (is_owed_aside s) v.rx.claimed
+  count_found want a found = (let c = many_removed (is_owed s) (takes want) v.rx.unexpected a found in omega (arith, c))
 
   pub count_claimed : (ctx : ℕ) (k : ℕ × Arrival) → find (λ k. k.0 == ctx) v.rx.claimed ≡ Some k
-      → count_of (is_owed s) v.rx.unexpected + count_of (is_owed_aside s) v.rx.claimed ≡ bit (is_owed s k.1) + count_of (is_owed s) v.rx.unexpected + count_of (is_owed_aside s) (remove_first (λ k. k.0 == ctx) v.rx.claimed)
-  count_claimed ctx k found = (let c = count_without (is_owed_aside s) (λ k. k.0 == ctx) v.rx.claimed k found in omega (arith, c))
+      → many (is_owed s) v.rx.unexpected + many (is_owed_aside s) v.rx.claimed ≡ bit (is_owed s k.1) + many (is_owed s) v.rx.unexpected + many (is_owed_aside s) (remove_first (λ k. k.0 == ctx) v.rx.claimed)
+  count_claimed ctx k found = (let c = many_removed (is_owed_aside s) (λ k. k.0 == ctx) v.rx.claimed k found in omega (arith, c))
 
   -- a message that is claimed is counted among the claimed
   pub owed_claimed : (want : Want) (ctx : ℕ) (o : Option Arrival) → find (takes want) v.rx.unexpected ≡ o → owed s (claiming_first want ctx v) ≡ owed s v
   owed_claimed want ctx None none = rw none refl
   owed_claimed want ctx (Some a) found =
-      let c = count_without (is_owed s) (takes want) v.rx.unexpected a found in
+      let c = many_removed (is_owed s) (takes want) v.rx.unexpected a found in
       let l = count_last (is_owed_aside s) v.rx.claimed (ctx, a) in
       rw found (omega (arith, c, l))
 
@@ -128,7 +130,7 @@ pub record Leaves (v w : Arriving) (a : Arrival) : Type 0 where
   pub fitting : ((s : ℕ) → IsFitting (coming_from v.rx s) (begun_of v s)) → (s : ℕ) → IsFitting (coming_from w.rx s) (begun_of w s)
 
 pub left_by : (v w : Arriving) (a : Arrival) (partly : PartlyIn v a) (c : Coming) (way : IsWay c) (begun : w.begun ≡ v.begun) (coming : w.rx.coming ≡ turned (λ x. Some c) a.bytes a.source v.rx.coming)
-    (counted : (s : ℕ) → count_of (is_owed s) v.rx.unexpected + count_of (is_owed_aside s) v.rx.claimed ≡ bit (is_owed s a) + count_of (is_owed s) w.rx.unexpected + count_of (is_owed_aside s) w.rx.claimed) → Leaves v w a
+    (counted : (s : ℕ) → many (is_owed s) v.rx.unexpected + many (is_owed_aside s) v.rx.claimed ≡ bit (is_owed s a) + many (is_owed s) w.rx.unexpected + many (is_owed_aside s) w.rx.claimed) → Leaves v w a
 left_by v w a partly c way begun coming counted = record { begun = begun; owed_then = owed_left v a partly c way w begun coming counted; fitting = fitting_left v a partly c way w begun coming counted }
 
 -- where the rest goes changes nothing else

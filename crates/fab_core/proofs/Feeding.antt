@@ -34,6 +34,7 @@ use Rattle.fab_core.proofs.Doing.{heading_is, tail_is}
 use Rattle.fab_base.specs.Replies.{is_reply}
 use Rattle.fab_rx.proofs.Growing.{item_there}
 use Rattle.fab_core.proofs.Fits.{fits_tail}
+use Rattle.fab_core.proofs.Owing.{in_coming}
 use Rattle.fab_core.proofs.Together.{fitting_arrived}
 use Rattle.fab_settling.specs.Served.{writes_data}
 
@@ -87,20 +88,17 @@ heads_raised false source head v = (refl, refl)
 -- ---- where it goes
 
 module _ (v : Arriving) (ok : IsArriving v) (source : ℕ) (head : ItemHead) (within : source < length v.begun) where
-  in_coming : source < length v.rx.coming
-  in_coming = omega (arith, within, ok.coming)
-
   arrived_message : is_message head.kind ≡ true → coming_from (arriving source head v).rx source ≡ elim (taker source head v.rx) [ None ↦ Some Keep | Some r ↦ Some (Into r r.used) ]
   unfolding heading_message
   arrived_message message = by (taker source head v.rx) refl
     where
       by : (o : Option Receive) → taker source head v.rx ≡ o → coming_from (arriving source head v).rx source ≡ elim (taker source head v.rx) [ None ↦ Some Keep | Some r ↦ Some (Into r r.used) ]
-      by None e = rw (message, e, heading_message) (get_or-set_same v.rx.coming source (Some Keep) None in_coming)
-      by (Some r) e = rw (message, e, heading_message) (get_or-set_same v.rx.coming source (Some (Into r r.used)) None in_coming)
+      by None e = rw (message, e, heading_message) (get_or-set_same v.rx.coming source (Some Keep) None (in_coming v ok source within))
+      by (Some r) e = rw (message, e, heading_message) (get_or-set_same v.rx.coming source (Some (Into r r.used)) None (in_coming v ok source within))
 
   arrived_other : is_message head.kind ≡ false → coming_from (arriving source head v).rx source ≡ Some (way_of head.kind)
   unfolding heading_other
-  arrived_other other = rw (other, heading_other) (get_or-set_same v.rx.coming source (Some (way_of head.kind)) None in_coming)
+  arrived_other other = rw (other, heading_other) (get_or-set_same v.rx.coming source (Some (way_of head.kind)) None (in_coming v ok source within))
 
   -- ---- what is written when it is whole, where its first frame comes
 

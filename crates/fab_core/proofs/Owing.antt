@@ -5,6 +5,7 @@ use Rattle.std.specs.Option.{option_map}
 use Rattle.std.proofs.lemmas.Bool.{cases_eq, cases_lt, eq-eqb, ne_eqb}
 use Rattle.std.proofs.lemmas.List.{set_past}
 use Rattle.fab_model.proofs.Firsts.{IfSome-find}
+use Rattle.fab_model.proofs.Removing.{many_removed}
 use Rattle.fab_base.specs.declared.items.Ack.{Ack}
 use Rattle.fab_base.specs.declared.items.Ack.TheVariants.{Nothing, Delivery, Match}
 use Rattle.fab_base.specs.declared.items.Item.{Item}
@@ -25,7 +26,8 @@ use Rattle.fab_rx.proofs.Plain.{shared_besides}
 use Rattle.fab_rx.specs.Arriving.{Arriving, IsArriving, IsPartly, PartlyIn, arriving, bare, begun_of, bytes_come, finishing, growing, headed, kept, lengthened, posting}
 use Rattle.fab_rma.specs.Serving.{is_request}
 use Rattle.fab_face.specs.Owed.{is_due}
-use Rattle.fab_core.specs.Parts.{bit, count_of, due_for, is_owed, is_owed_aside, owed}
+use Rattle.fab_base.specs.Many.{bit, many}
+use Rattle.fab_core.specs.Parts.{due_for, is_owed, is_owed_aside, owed}
 use Rattle.fab_settling.specs.Orders.{asks}
 
 -- ---- counting
@@ -36,28 +38,14 @@ either_is Delivery = refl
 either_is Match = refl
 
 module _ {X : Type 0} (f : X → Bool) where
-  count_more : (x : X) (xs : List X) → count_of f (x ∷ xs) ≡ bit (f x) + count_of f xs
+  count_more : (x : X) (xs : List X) → many f (x ∷ xs) ≡ bit (f x) + many f xs
   count_more x xs = refl
 
-  pub count_last : (xs : List X) (x : X) → count_of f (xs ++ x ∷ []) ≡ count_of f xs + bit (f x)
+  pub count_last : (xs : List X) (x : X) → many f (xs ++ x ∷ []) ≡ many f xs + bit (f x)
   count_last [] x = (let e = count_more x [] in omega (arith, e))
   count_last (y ∷ ys) x = (let a = count_more y (ys ++ x ∷ []) in let b = count_last ys x in let d = count_more y ys in omega (arith, a, b, d))
 
-  without_step : (test : X → Bool) (y : X) (ys : List X) (x : X) (b : Bool) → test y ≡ b → cond b (Some y) (find test ys) ≡ Some x → (find test ys ≡ Some x → count_of f ys ≡ bit (f x) + count_of f (remove_first test ys))
-      → count_of f (y ∷ ys) ≡ bit (f x) + count_of f (remove_first test (y ∷ ys))
-  without_step test y ys x true is e more = (let same : y ≡ x = cc in rw (is, remove_first) (count_more y ys ∙ ap (λ z. bit (f z) + count_of f ys) same))
-  without_step test y ys x false is e more =
-      let a = count_more y ys in
-      let b = more e in
-      let d = count_more y (remove_first test ys) in
-      rw (is, remove_first) (omega (arith, a, b, d))
-
-  -- the first that passes a test leaves
-  pub count_without : (test : X → Bool) (xs : List X) (x : X) → find test xs ≡ Some x → count_of f xs ≡ bit (f x) + count_of f (remove_first test xs)
-  count_without test [] x e = absurd (cc)
-  count_without test (y ∷ ys) x e = without_step test y ys x (test y) refl e (count_without test ys x)
-
-  count_alike : (g : X → X) → ((x : X) → f (g x) ≡ f x) → (xs : List X) → count_of f (map g xs) ≡ count_of f xs
+  count_alike : (g : X → X) → ((x : X) → f (g x) ≡ f x) → (xs : List X) → many f (map g xs) ≡ many f xs
   count_alike g same [] = refl
   count_alike g same (x ∷ xs) = (let a = count_more (g x) (map g xs) in let b = count_alike g same xs in let d = count_more x xs in let e = ap bit (same x) in omega (arith, a, b, d, e))
 
@@ -90,11 +78,11 @@ other_asks ReadReq b other = refl
 other_asks AtomicReq b other = refl
 other_asks Reply b other = refl
 
-module _ (v : Arriving) (ok : IsArriving v) (source : ℕ) (head : ItemHead) (within : source < length v.begun) (nothing : begun_of v source ≡ None) where
-  in_coming : source < length v.rx.coming
-  in_coming = omega (arith, within, ok.coming)
+pub in_coming : (v : Arriving) → IsArriving v → (source : ℕ) → source < length v.begun → source < length v.rx.coming
+in_coming v ok source within = omega (arith, within, ok.coming)
 
-  owed_now : owed source v ≡ count_of (is_owed source) v.rx.unexpected + count_of (is_owed_aside source) v.rx.claimed
+module _ (v : Arriving) (ok : IsArriving v) (source : ℕ) (head : ItemHead) (within : source < length v.begun) (nothing : begun_of v source ≡ None) where
+  owed_now : owed source v ≡ many (is_owed source) v.rx.unexpected + many (is_owed_aside source) v.rx.claimed
   owed_now = (let e : due_for (coming_from v.rx source) (begun_of v source) ≡ 0 = ap (due_for (coming_from v.rx source)) nothing in omega (arith, e))
 
   begun_here : begun_of (arriving source head v) source ≡ Some (bare head)
@@ -109,7 +97,7 @@ module _ (v : Arriving) (ok : IsArriving v) (source : ℕ) (head : ItemHead) (wi
 
   module _ (w : Coming) where
     coming_here : coming_from (record v.rx { coming = slice_set v.rx.coming source (Some w) }) source ≡ Some w
-    coming_here = get_or-set_same v.rx.coming source (Some w) None in_coming
+    coming_here = get_or-set_same v.rx.coming source (Some w) None (in_coming v ok source within)
 
     coming_there : (s : ℕ) → s ≢ source → coming_from (record v.rx { coming = slice_set v.rx.coming source (Some w) }) s ≡ coming_from v.rx s
     coming_there s other = get_or-set_other v.rx.coming source s (Some w) None other
@@ -122,8 +110,8 @@ module _ (v : Arriving) (ok : IsArriving v) (source : ℕ) (head : ItemHead) (wi
   pub record Went (rx : Receiving) : Type 0 where
     pub way : Coming
     pub coming : rx.coming ≡ slice_set v.rx.coming source (Some way)
-    pub here : bit (is_due (Some way) head) + count_of (is_owed source) rx.unexpected ≡ count_of (is_owed source) v.rx.unexpected + bit (asks head)
-    pub there : (s : ℕ) → s ≢ source → count_of (is_owed s) rx.unexpected ≡ count_of (is_owed s) v.rx.unexpected
+    pub here : bit (is_due (Some way) head) + many (is_owed source) rx.unexpected ≡ many (is_owed source) v.rx.unexpected + bit (asks head)
+    pub there : (s : ℕ) → s ≢ source → many (is_owed s) rx.unexpected ≡ many (is_owed s) v.rx.unexpected
     pub aside : rx.claimed ≡ v.rx.claimed
 
   message_by : (o : Option Receive) → taker source head v.rx ≡ o → is_message head.kind ≡ true → Went (heading_message source head v.rx)
@@ -171,11 +159,11 @@ module _ (v : Arriving) (ok : IsArriving v) (source : ℕ) (head : ItemHead) (wi
 
   pub owed_here : owed source (arriving source head v) ≡ owed source v + bit (asks head)
   owed_here =
-      let to : coming_from (headed (is_message head.kind) source head v.rx) source ≡ Some goes.way = ap (λ (cs : List (Option Coming)). get_or cs source None) goes.coming ∙ get_or-set_same v.rx.coming source (Some goes.way) None in_coming in
+      let to : coming_from (headed (is_message head.kind) source head v.rx) source ≡ Some goes.way = ap (λ (cs : List (Option Coming)). get_or cs source None) goes.coming ∙ get_or-set_same v.rx.coming source (Some goes.way) None (in_coming v ok source within) in
       let due : due_for (coming_from (headed (is_message head.kind) source head v.rx) source) (begun_of (arriving source head v) source) ≡ bit (is_due (Some goes.way) head) = rw (to, begun_here) refl in
       let here = goes.here in
       let now = owed_now in
-      let aside = ap (count_of (is_owed_aside source)) goes.aside in
+      let aside = ap (many (is_owed_aside source)) goes.aside in
       omega (arith, due, here, now, aside)
 
   pub owed_there : (s : ℕ) → s ≢ source → owed s (arriving source head v) ≡ owed s v
@@ -183,7 +171,7 @@ module _ (v : Arriving) (ok : IsArriving v) (source : ℕ) (head : ItemHead) (wi
       let to : coming_from (headed (is_message head.kind) source head v.rx) s ≡ coming_from v.rx s = ap (λ (cs : List (Option Coming)). get_or cs s None) goes.coming ∙ get_or-set_other v.rx.coming source s (Some goes.way) None other in
       let due : due_for (coming_from (headed (is_message head.kind) source head v.rx) s) (begun_of (arriving source head v) s) ≡ due_for (coming_from v.rx s) (begun_of v s) = rw (to, begun_there s other) refl in
       let there = goes.there s other in
-      let aside = ap (count_of (is_owed_aside s)) goes.aside in
+      let aside = ap (many (is_owed_aside s)) goes.aside in
       omega (arith, due, there, aside)
 
 -- ---- its bytes come
@@ -193,7 +181,7 @@ due_longer c bytes None = refl
 due_longer c bytes (Some item) = refl
 
 pub owed_grown : (v : Arriving) (source : ℕ) (bytes : List ℕ) (s : ℕ) → owed s (growing source bytes v) ≡ owed s v
-owed_grown v source bytes s = ap (λ n. n + count_of (is_owed s) v.rx.unexpected + count_of (is_owed_aside s) v.rx.claimed) due
+owed_grown v source bytes s = ap (λ n. n + many (is_owed s) v.rx.unexpected + many (is_owed_aside s) v.rx.claimed) due
   where
     due : due_for (coming_from v.rx s) (begun_of (growing source bytes v) s) ≡ due_for (coming_from v.rx s) (begun_of v s)
     due = elim (cases_eq s source) [
@@ -214,19 +202,19 @@ same_owed s source bytes a = by (a.source == source) refl a.bytes refl
     by true e (Some there) is = rw (e, is, completed) refl
     by true e None is = rw (e, is, completed) refl
 
-kept_count : (s : ℕ) (c : Option Coming) (source : ℕ) (bytes : List ℕ) (rx : Receiving) → count_of (is_owed s) (kept c source bytes rx).unexpected ≡ count_of (is_owed s) rx.unexpected
+kept_count : (s : ℕ) (c : Option Coming) (source : ℕ) (bytes : List ℕ) (rx : Receiving) → many (is_owed s) (kept c source bytes rx).unexpected ≡ many (is_owed s) rx.unexpected
 unfolding keeping
 kept_count s None source bytes rx = refl
-kept_count s (Some (Into r place)) source bytes rx = ap (count_of (is_owed s)) (shared_besides r.least r place bytes rx).unexpected
+kept_count s (Some (Into r place)) source bytes rx = ap (many (is_owed s)) (shared_besides r.least r place bytes rx).unexpected
 kept_count s (Some Keep) source bytes rx = count_alike (is_owed s) (completed source bytes) (same_owed s source bytes) rx.unexpected
 kept_count s (Some Throw) source bytes rx = refl
 kept_count s (Some Request) source bytes rx = refl
 kept_count s (Some Answer) source bytes rx = refl
 
-kept_aside : (s : ℕ) (c : Option Coming) (source : ℕ) (bytes : List ℕ) (rx : Receiving) → count_of (is_owed_aside s) (kept c source bytes rx).claimed ≡ count_of (is_owed_aside s) rx.claimed
+kept_aside : (s : ℕ) (c : Option Coming) (source : ℕ) (bytes : List ℕ) (rx : Receiving) → many (is_owed_aside s) (kept c source bytes rx).claimed ≡ many (is_owed_aside s) rx.claimed
 unfolding keeping
 kept_aside s None source bytes rx = refl
-kept_aside s (Some (Into r place)) source bytes rx = ap (count_of (is_owed_aside s)) (shared_besides r.least r place bytes rx).claimed
+kept_aside s (Some (Into r place)) source bytes rx = ap (many (is_owed_aside s)) (shared_besides r.least r place bytes rx).claimed
 kept_aside s (Some Keep) source bytes rx = count_alike (is_owed_aside s) (λ k. (k.0, completed source bytes k.1)) (λ k. same_owed s source bytes k.1) rx.claimed
 kept_aside s (Some Throw) source bytes rx = refl
 kept_aside s (Some Request) source bytes rx = refl
@@ -242,11 +230,11 @@ kept_coming (Some Request) source bytes rx = refl
 kept_coming (Some Answer) source bytes rx = refl
 
 module _ (v : Arriving) (source : ℕ) (item : Item) (within : source < length v.begun) (begun : begun_of v source ≡ Some item) where
-  count_same : (s : ℕ) → count_of (is_owed s) (finishing source v).rx.unexpected ≡ count_of (is_owed s) v.rx.unexpected
+  count_same : (s : ℕ) → many (is_owed s) (finishing source v).rx.unexpected ≡ many (is_owed s) v.rx.unexpected
   unfolding made_whole
   count_same s = kept_count s (coming_from v.rx source) source (bytes_come (begun_of v source)) (made_whole source v.rx)
 
-  aside_same : (s : ℕ) → count_of (is_owed_aside s) (finishing source v).rx.claimed ≡ count_of (is_owed_aside s) v.rx.claimed
+  aside_same : (s : ℕ) → many (is_owed_aside s) (finishing source v).rx.claimed ≡ many (is_owed_aside s) v.rx.claimed
   unfolding made_whole
   aside_same s = kept_aside s (coming_from v.rx source) source (bytes_come (begun_of v source)) (made_whole source v.rx)
 
@@ -279,13 +267,13 @@ module _ (v : Arriving) (ok : IsArriving v) (r : Receive) where
   module _ (a : Arrival) (found : find (takes r.want) v.rx.unexpected ≡ Some a) where
     -- one that is whole: its reply is booked now
     pub owed_given : (bytes : List ℕ) → a.bytes ≡ Some bytes → (s : ℕ) → owed s v ≡ bit (is_owed s a) + owed s (posting r v)
-    owed_given bytes some s = rw (found, some) (let c = count_without (is_owed s) (takes r.want) v.rx.unexpected a found in omega (arith, c))
+    owed_given bytes some s = rw (found, some) (let c = many_removed (is_owed s) (takes r.want) v.rx.unexpected a found in omega (arith, c))
 
     -- one whose rest still comes: its reply is booked at its end
     pub owed_going : a.bytes ≡ None → (s : ℕ) → owed s (posting r v) ≡ owed s v
     owed_going none s =
         let partly : IsPartly a (coming_from v.rx a.source) (begun_of v a.source) = subst (λ (o : Option Arrival). IfSome o (PartlyIn v)) found (IfSome-find (takes r.want) (PartlyIn v) v.rx.unexpected ok.partly) none in
-        let c = count_without (is_owed s) (takes r.want) v.rx.unexpected a found in
+        let c = many_removed (is_owed s) (takes r.want) v.rx.unexpected a found in
         rw (found, none) (elim (cases_eq s a.source) [
           | inl here ↦
               let within : a.source < length v.rx.coming = in_row v.rx.coming a.source Keep partly.way in

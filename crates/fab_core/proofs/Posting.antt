@@ -50,6 +50,12 @@ same_failure y x e = cc
 
 -- ---- a receive for one message
 
+-- where what is coming is the same, and so are the receives that are open, it goes where it went
+coming_stays : (before rest : Receiving) (known : List (ℕ × ℕ)) (calls : ℕ) → ((s : ℕ) → IsComingIn before known calls (coming_from before s)) → ((c : ℕ) → opened rest c ≡ opened before c)
+    → rest.coming ≡ before.coming → (s : ℕ) → IsComingIn rest known calls (coming_from rest s)
+coming_stays before rest known calls each same coming s =
+    subst (λ (xs : List (Option Coming)). IsComingIn rest known calls (get_or xs s None)) (sym coming) (coming_moved before rest known calls (coming_from before s) (λ c is. same c) (each s))
+
 module _ (p : Parts) (ok : IsLentBy p) (r : Receive) (single : r.least ≡ None) (this : r.call ≡ p.calls) where
   later : IsLent p.rx.rx p.rx.multis p.tx.tx p.cq (p.calls + 1) p.multis
   later = called_lent p.rx.rx p.rx.multis p.tx.tx p.cq p.calls p.multis ok
@@ -72,16 +78,13 @@ module _ (p : Parts) (ok : IsLentBy p) (r : Receive) (single : r.least ≡ None)
 
   -- it gets a message that left these
   module _ (a : Arrival) (rest : Receiving) (same : (c : ℕ) → opened rest c ≡ opened p.rx.rx c) (coming : rest.coming ≡ p.rx.rx.coming) (begun : List (Option Item)) (most next : ℕ) where
-    moved : (s : ℕ) → IsComingIn rest p.rx.multis (p.calls + 1) (coming_from rest s)
-    moved s = subst (λ (xs : List (Option Coming)). IsComingIn rest p.rx.multis (p.calls + 1) (get_or xs s None)) (sym coming) (coming_moved p.rx.rx rest p.rx.multis (p.calls + 1) (coming_from p.rx.rx s) (λ c is. same c) (later.coming s))
-
     pub given_lent : (o : Option (List ℕ)) → IsLentBy (given_whole o a r (called (with_arriving (record { rx = given o a.source r rest; begun = begun; most = most; next = next; multis = p.rx.multis }) p)))
     given_lent None =
         lent_moved p.rx.rx p.rx.multis p.tx.tx p.cq (p.calls + 1) p.multis later (goes a.source (Into r 0) rest) (λ c is. same c)
-        (coming_set (goes a.source (Into r 0) rest) p.rx.multis (p.calls + 1) rest.coming a.source (Some (Into r 0)) (λ s. coming_moved rest (goes a.source (Into r 0) rest) p.rx.multis (p.calls + 1) (coming_from rest s) (λ c is. refl) (moved s)) (goes_in (goes a.source (Into r 0) rest)))
+        (coming_set (goes a.source (Into r 0) rest) p.rx.multis (p.calls + 1) rest.coming a.source (Some (Into r 0)) (λ s. coming_moved rest (goes a.source (Into r 0) rest) p.rx.multis (p.calls + 1) (coming_from rest s) (λ c is. refl) (coming_stays p.rx.rx rest p.rx.multis (p.calls + 1) later.coming same coming s)) (goes_in (goes a.source (Into r 0) rest)))
     given_lent (Some bytes) =
         booked_lent (at_match a.head.ack) a.source a.head rest p.rx.multis p.tx _ (p.calls + 1) p.multis
-        (lent_received p.rx.rx p.rx.multis p.tx.tx p.cq (p.calls + 1) p.multis later rest (λ c is. same c) moved r 0 a.source a.head bytes (goes_in p.rx.rx))
+        (lent_received p.rx.rx p.rx.multis p.tx.tx p.cq (p.calls + 1) p.multis later rest (λ c is. same c) (coming_stays p.rx.rx rest p.rx.multis (p.calls + 1) later.coming same coming) r 0 a.source a.head bytes (goes_in p.rx.rx))
 
 pub posted_lent : (p : Parts) → IsLentBy p → (want : Want) (buf : List ℕ) (ctx : ℕ) → IsLentBy (posted_by want buf ctx p)
 posted_lent p ok want buf ctx = by (find (takes want) p.rx.rx.unexpected) refl
@@ -239,16 +242,13 @@ module _ (p : Parts) (ok : IsLentBy p) where
 
   -- of a message that leaves the rest is thrown away
   module _ (rest : Receiving) (same : (c : ℕ) → opened rest c ≡ opened p.rx.rx c) (coming : rest.coming ≡ p.rx.rx.coming) where
-    rest_coming : (s : ℕ) → IsComingIn rest p.rx.multis (p.calls + 1) (coming_from rest s)
-    rest_coming s = subst (λ (xs : List (Option Coming)). IsComingIn rest p.rx.multis (p.calls + 1) (get_or xs s None)) (sym coming) (coming_moved p.rx.rx rest p.rx.multis (p.calls + 1) (coming_from p.rx.rx s) (λ c is. same c) (after.coming s))
-
     thrown_same : (o : Option (List ℕ)) (source c : ℕ) → opened (thrown o source rest) c ≡ opened p.rx.rx c
     thrown_same None source c = same c
     thrown_same (Some bytes) source c = same c
 
     thrown_coming : (o : Option (List ℕ)) (source s : ℕ) → IsComingIn (thrown o source rest) p.rx.multis (p.calls + 1) (coming_from (thrown o source rest) s)
-    thrown_coming None source s = coming_set (goes source Throw rest) p.rx.multis (p.calls + 1) rest.coming source (Some Throw) (λ s. coming_moved rest (goes source Throw rest) p.rx.multis (p.calls + 1) (coming_from rest s) (λ c is. refl) (rest_coming s)) tt s
-    thrown_coming (Some bytes) source s = rest_coming s
+    thrown_coming None source s = coming_set (goes source Throw rest) p.rx.multis (p.calls + 1) rest.coming source (Some Throw) (λ s. coming_moved rest (goes source Throw rest) p.rx.multis (p.calls + 1) (coming_from rest s) (λ c is. refl) (coming_stays p.rx.rx rest p.rx.multis (p.calls + 1) after.coming same coming s)) tt s
+    thrown_coming (Some bytes) source s = coming_stays p.rx.rx rest p.rx.multis (p.calls + 1) after.coming same coming s
 
   pub looked_lent : (how : PeekHow) (want : Want) (ctx : ℕ) → IsLentBy (looked_by how want ctx p)
   looked_lent how want ctx = by how (find (takes want) p.rx.rx.unexpected) refl

@@ -30,11 +30,12 @@ use Rattle.fab_tx.proofs.Answering.{answered_none, answered_some}
 use Rattle.fab_av.specs.Addresses.{Addresses}
 use Rattle.fab_rma.specs.Serving.{is_request}
 use Rattle.fab_face.specs.Owed.{is_due}
-use Rattle.fab_core.specs.Parts.{IsFitting, IsTogether, Parts, bit, is_owed, owed}
+use Rattle.fab_base.specs.Many.{bit}
+use Rattle.fab_core.specs.Parts.{IsFitting, IsTogether, Parts, is_owed, owed}
 use Rattle.fab_settling.specs.Ends.{booked, cq_after, entry_at_end, written_if}
 use Rattle.fab_settling.specs.Orders.{asks}
 use Rattle.fab_core.specs.Doing.{growing_by, heading, with_transit}
-use Rattle.fab_core.proofs.Owing.{owed_besides, owed_given, owed_going, owed_grown, owed_here, owed_joined, owed_there, owed_whole, whole_coming}
+use Rattle.fab_core.proofs.Owing.{in_coming, owed_besides, owed_given, owed_going, owed_grown, owed_here, owed_joined, owed_there, owed_whole, whole_coming}
 use Rattle.fab_core.proofs.Serves.{begun_none as none_begun}
 
 -- ---- nothing has happened
@@ -131,9 +132,6 @@ most_booked false source head tx = refl
 -- ---- an item arrives
 
 module _ (v : Arriving) (ok : IsArriving v) (source : ℕ) (head : ItemHead) (within : source < length v.begun) (fits : (s : ℕ) → IsFitting (coming_from v.rx s) (begun_of v s)) where
-  in_coming : source < length v.rx.coming
-  in_coming = omega (arith, within, ok.coming)
-
   -- where the item goes
   way_by : (b : Bool) → is_message head.kind ≡ b → (w : Coming) × ((headed b source head v.rx).coming ≡ slice_set v.rx.coming source (Some w)) × IsFitting (Some w) (Some (bare head))
   unfolding heading_message heading_other
@@ -157,7 +155,7 @@ module _ (v : Arriving) (ok : IsArriving v) (source : ℕ) (head : ItemHead) (wi
 
   pub fitting_arrived : (s : ℕ) → IsFitting (coming_from (arriving source head v).rx s) (begun_of (arriving source head v) s)
   fitting_arrived s = elim (cases_eq s source) [
-    | inl here ↦ rw (here, way.1, get_or-set_same v.rx.coming source (Some way.0) None in_coming, get_or-set_same v.begun source (Some (bare head)) None within) way.2
+    | inl here ↦ rw (here, way.1, get_or-set_same v.rx.coming source (Some way.0) None (in_coming v ok source within), get_or-set_same v.begun source (Some (bare head)) None within) way.2
     | inr other ↦ rw (way.1, get_or-set_other v.rx.coming source s (Some way.0) None other, get_or-set_other v.begun source s (Some (bare head)) None other) (fits s)
   ]
 

@@ -4,6 +4,7 @@
 --     owed s rx      how many replies are still to be booked for the peer: for the item that is coming, and for messages that no receive took, unexpected or claimed
 --     IsTogether p   the parts belong to one endpoint
 use Rattle.std.specs.Prelude.{◌≡◌, ℕ, ◌+◌, ◌<◌, ◌≤◌, Bool, true, false, ◌&&◌, ◌==◌, List, [], ◌∷◌, length, Option, Some, None, slice_index}
+use Rattle.fab_base.specs.Many.{bit, many}
 use Rattle.fab_base.specs.declared.caps.Caps.{Caps}
 use Rattle.fab_base.specs.declared.items.Item.{Item}
 use Rattle.fab_base.specs.declared.items.Kind.TheVariants.{Reply}
@@ -59,10 +60,6 @@ held_of p = record { state = state_of p; places = p.tx.places; begun = p.rx.begu
 
 -- ---- replies that are to be booked
 
-abbrev pub bit : Bool → ℕ
-bit true = 1
-bit false = 0
-
 -- 1 where a reply is booked when the item that is coming is whole
 abbrev pub due_for : Option Coming → Option Item → ℕ
 due_for coming None = 0
@@ -72,15 +69,11 @@ due_for coming (Some item) = bit (is_due coming item.head)
 abbrev pub is_owed : ℕ → Arrival → Bool
 is_owed s a = (a.source == s) && at_match a.head.ack
 
-abbrev pub count_of : {X : Type 0} → (X → Bool) → List X → ℕ
-count_of test [] = 0
-count_of test (x ∷ xs) = bit (test x) + count_of test xs
-
 abbrev pub is_owed_aside : ℕ → ℕ × Arrival → Bool
 is_owed_aside s c = is_owed s c.1
 
 abbrev pub owed : ℕ → Arriving → ℕ
-owed s v = due_for (coming_from v.rx s) (begun_of v s) + count_of (is_owed s) v.rx.unexpected + count_of (is_owed_aside s) v.rx.claimed
+owed s v = due_for (coming_from v.rx s) (begun_of v s) + many (is_owed s) v.rx.unexpected + many (is_owed_aside s) v.rx.claimed
 
 -- ---- what holds between calls
 
