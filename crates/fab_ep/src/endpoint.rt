@@ -151,10 +151,10 @@ impl<P: Port, C: Machine> Endpoint<P, C> {
             ..
         } = self;
         core.known();
-        let place = core.place(dest);
         let Some(item) = core.next(dest) else {
             return Ok(Tried::Nothing);
         };
+        let place = core.place(dest);
         let left = item.head.total - place;
         if left > FRAME_BYTES {
             let after = item.head.total - (left - FRAME_BYTES);
