@@ -1,6 +1,7 @@
 mod Due
 mod Lasting
 mod Turning
+mod Peeking
 mod Posting
 mod Taking
 mod Sent

@@ -97,7 +97,7 @@ module _ {Home : Type 0} where
         owed = λ d. ap (λ (o : ℕ → Outgoing). (o d).owed) same.outs;
       }
 
-  calm_by : (a b : Seen Home) (source : ℕ) (o : Option FrameRef) → b.held ≡ a.held → b.log ≡ a.log → b.log_size ≡ a.log_size → Fronted (a.lanes.ins source) (b.lanes.ins source) o → LentAgain (a.lanes.ins source) o → Same a.lanes b.lanes source
+  pub calm_by : (a b : Seen Home) (source : ℕ) (o : Option FrameRef) → b.held ≡ a.held → b.log ≡ a.log → b.log_size ≡ a.log_size → Fronted (a.lanes.ins source) (b.lanes.ins source) o → LentAgain (a.lanes.ins source) o → Same a.lanes b.lanes source
       → MovedBy a.lanes.moves b.lanes.moves [] → CalmIn a b source
   calm_by a b source o held log size fronted again same moves = record {
     calm = record { held = held; log = log; size = size; ported = peeked a.lanes b.lanes source o fronted again same moves };

@@ -151,10 +151,10 @@ impl<P: Port, C: Machine> Endpoint<P, C> {
             ..
         } = self;
         core.known();
-        let place = core.place(dest);
         let Some(item) = core.next(dest) else {
             return Ok(Tried::Nothing);
         };
+        let place = core.place(dest);
         let left = item.head.total - place;
         if left > FRAME_BYTES {
             let after = item.head.total - (left - FRAME_BYTES);
@@ -286,9 +286,11 @@ impl<P: Port, C: Machine> Endpoint<P, C> {
         Ok(())
     }
 
-    /// Takes the next frame of a peer, where that may be.
-    fn take_one(&mut self, source: u32) -> Result<Tried, NoMemory>
+    /// Takes the next frame of a peer, where that may be. The log has two free places.
+    #[inline(never)]
+    fn take_here(&mut self, source: u32) -> Result<Tried, NoMemory>
         requires below { source < P.peer_count self.old.port }
+        requires room { length self.old.log + 2 ≤ self.old.log_size }
         ensures tries { TriesIn (seen P.Port self.old) (seen P.Port self.new) source result }
         ensures pushed { self.new.pushed ≡ self.old.pushed }
         ensures next { self.new.next ≡ self.old.next }
@@ -297,12 +299,8 @@ impl<P: Port, C: Machine> Endpoint<P, C> {
             port,
             core,
             log,
-            log_size,
             ..
         } = self;
-        if is_short(log, *log_size) {
-            return Ok(Tried::Short);
-        }
         core.known();
         let Some(frame) = port.front(source) else {
             return Ok(Tried::Nothing);
@@ -317,6 +315,23 @@ impl<P: Port, C: Machine> Endpoint<P, C> {
         log_if(log, is_first, Event::Head(source));
         log_if(log, is_last, Event::Tail(source));
         Ok(Tried::Moved)
+    }
+
+    /// The same where the log has two free places; it is short where it has fewer. A look at an empty lane
+    /// is cheap: taking a frame is a function of its own.
+    fn take_one(&mut self, source: u32) -> Result<Tried, NoMemory>
+        requires below { source < P.peer_count self.old.port }
+        ensures tries { TriesIn (seen P.Port self.old) (seen P.Port self.new) source result }
+        ensures pushed { self.new.pushed ≡ self.old.pushed }
+        ensures next { self.new.next ≡ self.old.next }
+    {
+        if is_short(&self.log, self.log_size) {
+            return Ok(Tried::Short);
+        }
+        if self.port.front(source).is_none() {
+            return Ok(Tried::Nothing);
+        }
+        self.take_here(source)
     }
 
     /// The turn of a lane: posts a frame, or takes one, where that may be.
