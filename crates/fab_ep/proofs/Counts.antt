@@ -1,12 +1,8 @@
 -- How many acts of a kind there are, and counts that never fall.
 use Rattle.std.proofs.Common.{◌≡◌, ◌+◌, Bool, List, [], ◌∷◌, ◌++◌, refl, cond}
 use Rattle.std.specs.Prelude.{count_by}
-use Rattle.std.proofs.lemmas.List.Sums.{sum_by-append}
 use Rattle.fab_face.specs.Acts.{Act, Did, Took, Posted, Drew, Had, is_draw, is_post, is_take}
 use Rattle.fab_face.specs.Answers.{AllAre}
-
-pub count_append : (test : Act → Bool) (xs ys : List Act) → count_by test (xs ++ ys) ≡ count_by test xs + count_by test ys
-count_append test xs ys = sum_by-append (λ a. cond (test a) 1 0) xs ys
 
 -- draws are no frames
 pub draws_none : (acts : List Act) → AllAre is_draw acts → (count_by is_take acts ≡ 0) × (count_by is_post acts ≡ 0)

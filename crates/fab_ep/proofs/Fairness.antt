@@ -17,7 +17,8 @@ use Rattle.fab_face.specs.declared.lanes.Lane.TheVariants.{To, From}
 use Rattle.fab_ep.specs.Circle.{Follows, InCircle, StandsAt}
 use Rattle.fab_ep.specs.Fairness.{Lap}
 use Rattle.fab_ep.proofs.Circle.{ahead_here, ahead_nearer, ahead_one, follows_of, round_back, some_of, stands_next, stands_none}
-use Rattle.fab_ep.proofs.Counts.{count_append, draws_none}
+use Rattle.fab_base.proofs.Lists.{count_by-append as count_append}
+use Rattle.fab_ep.proofs.Counts.{draws_none}
 
 -- ---- how many frames moved
 

@@ -26,7 +26,8 @@ use Rattle.fab_ep.specs.Circle.{Follows, InCircle}
 use Rattle.fab_ep.specs.Fairness.{Lap}
 use Rattle.fab_ep.specs.Tries.{Calm, CalmOut, CalmIn, Tries, PassesOn, OutAt, InAt, LaneAt, Looked, Turning, WentRound, CutShort, Rounds, Quiet, TurnedOn, Turns, taken_on, posted_on, is_held, is_short}
 use Rattle.fab_ep.specs.Draws.{Drawing, Draws}
-use Rattle.fab_ep.proofs.Counts.{count_append, draws_none}
+use Rattle.fab_base.proofs.Lists.{count_by-append as count_append}
+use Rattle.fab_ep.proofs.Counts.{draws_none}
 use Rattle.fab_ep.proofs.Circle.{ahead_here, ahead_one}
 use Rattle.fab_ep.proofs.Fairness.{Laps, empty_on, full_on, had_before, had_now, lap_drawn, lap_none, lap_of, lap_on, lap_still, laps_none, laps_on, moved_append, moved_nothing, moved_posted, moved_took, next_same, others_posted, others_took, serves_later, serves_of, serves_still}
 

@@ -1,6 +1,7 @@
 -- What want of memory leaves of the parts of a turn.
 use Rattle.std.proofs.Common.{◌≡◌, ◌≢◌, Bool, false, List, [], ◌∷◌, ◌++◌, ℕ, Option, Some, None, Result, Ok, Err, OnOk, OnErr, IfErr, refl, sym, ap, ◌∙◌, subst}
 use Rattle.std.specs.Prelude.{find}
+use Rattle.fab_base.proofs.Options.{on_err}
 use Rattle.fab_base.specs.declared.entries.Kept.{Kept}
 use Rattle.fab_base.specs.declared.entries.Taken.{Taken}
 use Rattle.fab_base.specs.declared.faults.Fault.{Fault}
@@ -30,10 +31,6 @@ use Rattle.fab_peer.proofs.Paths.{living, lives_append, moves_live}
 use Rattle.fab_peer.proofs.Calling.{IsCalled, did_lives, lived_done, read_lives, reads_none, reads_on, wait_done}
 use Rattle.fab_peer.proofs.Alone.{IsFinal, calls_reg, reg_final}
 use Rattle.fab_peer.proofs.Turning.{turned_by}
-
-pub on_err : {X Y : Type 0} (r : Result X Y) (Q : Type 0) → Q → OnErr r Q
-on_err (Ok x) Q is = tt
-on_err (Err y) Q is = is
 
 module _ {Home : Type 0} where
   -- ---- nothing was done

@@ -5,6 +5,7 @@ use Rattle.std.proofs.lemmas.List.Sums.{sum_by-append, sum_by-cons}
 use Rattle.std.proofs.lemmas.List.{map-append}
 use Rattle.std.proofs.lemmas.Grind.{flat_map-append}
 use Rattle.std.specs.List.{list_any}
+use Rattle.fab_base.proofs.Lists.{count_by-append as count_acts}
 use Rattle.fab_base.specs.declared.entries.Kept.{Kept}
 use Rattle.fab_base.specs.declared.peers.LineResult.{LineResult}
 use Rattle.fab_base.specs.declared.script.Line.{Line}
@@ -65,9 +66,6 @@ some_did [] ys = refl
 some_did (x ∷ xs) ys = refl
 
 -- ---- lines among acts
-
-pub count_acts : (test : Act → Bool) (xs ys : List Act) → count_by test (xs ++ ys) ≡ count_by test xs + count_by test ys
-count_acts test xs ys = sum_by-append (λ x. cond (test x) 1 0) xs ys
 
 count_first : (test : Act → Bool) (x : Act) (xs : List Act) → count_by test (x ∷ xs) ≡ cond (test x) 1 0 + count_by test xs
 count_first test x xs = sum_by-cons (λ y. cond (test y) 1 0) x xs

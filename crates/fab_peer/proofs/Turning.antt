@@ -1,6 +1,7 @@
 -- How the parts of a turn join.
 use Rattle.std.proofs.Common.{◌≡◌, ◌≤◌, ◌+◌, inl, inr, ℕ, Bool, true, false, not, ◌||◌, List, [], ◌++◌, length, None, refl, sym, ap, ◌∙◌, subst, arith}
 use Rattle.std.specs.Prelude.{count_by}
+use Rattle.fab_base.proofs.Lists.{count_by-append as count_acts}
 use Rattle.fab_base.proofs.Bools.{or_true, or_false_left as or_first, or_false_right as or_second, or_assoc as or_or}
 use Rattle.fab_model.specs.Peers.{do_next}
 use Rattle.fab_face.specs.Held.{Held, IsOpen}
@@ -9,7 +10,7 @@ use Rattle.fab_peer.proofs.Cutting.{cut_by}
 use Rattle.fab_face.specs.Acts.{Act}
 use Rattle.fab_peer.specs.Laps.{Lap}
 use Rattle.fab_peer.specs.Turns.{Told, Living, living_of, actor_in, LivesBy, Lived, IsCounted, WentOn, Lined, ReadOn, MovedOn, Gone, IsRead, IsStill, Turned, is_some_act, is_line, line_if}
-use Rattle.fab_peer.proofs.Paths.{lived_then, lived_none, some_append, none_acts, count_acts, none_read}
+use Rattle.fab_peer.proofs.Paths.{lived_then, lived_none, some_append, none_acts, none_read}
 use Rattle.fab_peer.proofs.Calling.{lived_same}
 use Rattle.fab_peer.proofs.Idling.{idle_then}
 use Rattle.fab_peer.proofs.Showing.{joins_by, walk_shown}

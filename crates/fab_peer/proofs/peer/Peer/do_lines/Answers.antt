@@ -3,7 +3,8 @@ use Rattle.fab_base.proofs.Bools.{or_true, not_true, not_false}
 use Rattle.fab_peer.specs.Turns.{told}
 use Rattle.fab_peer.proofs.Calling.{lived_same}
 use Rattle.fab_peer.proofs.Turning.{lines_end, lines_go_on, lines_all}
-use Rattle.fab_peer.proofs.Leaving.{on_err, left_behind}
+use Rattle.fab_base.proofs.Options.{on_err}
+use Rattle.fab_peer.proofs.Leaving.{left_behind}
 use Rattle.fab_peer.proofs.peer.Peer.do_lines.Goals as goal
 
 pub returns-then-not-outcome-clause-on : goal.returns-then-not-outcome-clause-on

@@ -5,7 +5,8 @@ use Rattle.std.proofs.lemmas.Option.{slice_get_past}
 use Rattle.fab_peer.specs.Turns.{told}
 use Rattle.fab_peer.proofs.Calling.{next_by, finished_on}
 use Rattle.fab_peer.proofs.Filling.{next_sent, next_still}
-use Rattle.fab_peer.proofs.Leaving.{on_err, left_lines}
+use Rattle.fab_base.proofs.Options.{on_err}
+use Rattle.fab_peer.proofs.Leaving.{left_lines}
 use Rattle.fab_peer.proofs.peer.Peer.do_send.Goals as goal
 
 pub returns-in_default-clause-on : goal.returns-in_default-clause-on

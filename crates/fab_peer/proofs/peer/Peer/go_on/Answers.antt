@@ -1,7 +1,8 @@
 use Rattle.std.proofs.Common.{refl}
 use Rattle.fab_peer.specs.Turns.{told}
 use Rattle.fab_peer.proofs.Idling.{moved_on}
-use Rattle.fab_peer.proofs.Leaving.{on_err, left_progress}
+use Rattle.fab_base.proofs.Options.{on_err}
+use Rattle.fab_peer.proofs.Leaving.{left_progress}
 use Rattle.fab_peer.proofs.peer.Peer.go_on.Goals as goal
 
 pub returns-clause-on : goal.returns-clause-on

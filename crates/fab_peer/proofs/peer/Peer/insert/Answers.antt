@@ -4,7 +4,8 @@ use Rattle.fab_model.specs.State.{lookup}
 use Rattle.fab_model.specs.Calls.{Insert}
 use Rattle.fab_peer.specs.Turns.{told}
 use Rattle.fab_peer.proofs.Alone.{calls_insert, insert_final, one_inserted, here_line, noted_line}
-use Rattle.fab_peer.proofs.Leaving.{here_left, on_err, left_seen}
+use Rattle.fab_base.proofs.Options.{on_err}
+use Rattle.fab_peer.proofs.Leaving.{here_left, left_seen}
 use Rattle.fab_peer.proofs.peer.Peer.insert.Goals as goal
 
 pub returns-clause-on : goal.returns-clause-on

@@ -1,7 +1,8 @@
 use Rattle.std.proofs.Common.{◌||◌, refl}
 use Rattle.fab_peer.specs.Turns.{told}
 use Rattle.fab_peer.proofs.Turning.{lap_gone, lap_shared}
-use Rattle.fab_peer.proofs.Leaving.{on_err, left_behind}
+use Rattle.fab_base.proofs.Options.{on_err}
+use Rattle.fab_peer.proofs.Leaving.{left_behind}
 use Rattle.fab_peer.proofs.peer.Peer.lap.Goals as goal
 
 pub returns-clause-gone : goal.returns-clause-gone

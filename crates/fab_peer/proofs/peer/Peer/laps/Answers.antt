@@ -1,7 +1,8 @@
 use Rattle.std.proofs.Common.{◌||◌, refl, arith}
 use Rattle.fab_peer.specs.Turns.{told}
 use Rattle.fab_peer.proofs.Turning.{gone_then}
-use Rattle.fab_peer.proofs.Leaving.{on_err, left_behind}
+use Rattle.fab_base.proofs.Options.{on_err}
+use Rattle.fab_peer.proofs.Leaving.{left_behind}
 use Rattle.fab_peer.proofs.Lapping.{laps_more}
 use Rattle.fab_peer.proofs.peer.Peer.laps.Goals as goal
 

@@ -1,6 +1,7 @@
 use Rattle.std.proofs.Common.{◌≡◌, rules}
 use Rattle.fab_peer.specs.Turns.{told}
-use Rattle.fab_peer.proofs.Leaving.{on_err, left_by, left_over}
+use Rattle.fab_base.proofs.Options.{on_err}
+use Rattle.fab_peer.proofs.Leaving.{left_by, left_over}
 use Rattle.fab_peer.proofs.Lapping.{in_laps_by}
 use Rattle.fab_peer.proofs.peer.Peer.quantum.Goals as goal
 

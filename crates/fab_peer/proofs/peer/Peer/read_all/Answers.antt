@@ -3,7 +3,8 @@ use Rattle.fab_model.specs.Peers.{unread}
 use Rattle.fab_peer.specs.Turns.{Told, ReadOn, told}
 use Rattle.fab_face.proofs.Holding.{none_unread}
 use Rattle.fab_peer.proofs.Calling.{reads_on, reads_none, reads_less}
-use Rattle.fab_peer.proofs.Leaving.{on_err, left_behind}
+use Rattle.fab_base.proofs.Options.{on_err}
+use Rattle.fab_peer.proofs.Leaving.{left_behind}
 use Rattle.fab_peer.proofs.peer.Peer.read_all.Goals as goal
 
 pub entries-init : goal.entries-init

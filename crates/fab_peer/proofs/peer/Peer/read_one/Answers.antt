@@ -1,7 +1,8 @@
 use Rattle.std.proofs.Common.{ℕ, Option, refl, subst, ◌++◌, ◌∷◌, []}
 use Rattle.fab_peer.specs.Turns.{Lent, told, with_seen, Told}
 use Rattle.fab_peer.proofs.Calling.{few_released, reads_one, told_is}
-use Rattle.fab_peer.proofs.Leaving.{on_err, entry_left, read_left}
+use Rattle.fab_base.proofs.Options.{on_err}
+use Rattle.fab_peer.proofs.Leaving.{entry_left, read_left}
 use Rattle.fab_base.specs.declared.peers.Step.TheVariants.{Read}
 use Rattle.fab_peer.proofs.peer.Peer.read_one.Goals as goal
 

@@ -2,7 +2,8 @@ use Rattle.std.proofs.Common.{◌≡◌, ◌||◌, false, refl}
 use Rattle.fab_peer.specs.Turns.{told}
 use Rattle.fab_peer.proofs.Turning.{gone_behind, turned}
 use Rattle.fab_peer.proofs.Lapping.{reads_of}
-use Rattle.fab_peer.proofs.Leaving.{on_err, left_behind}
+use Rattle.fab_base.proofs.Options.{on_err}
+use Rattle.fab_peer.proofs.Leaving.{left_behind}
 use Rattle.fab_peer.proofs.peer.Peer.turn.Goals as goal
 
 pub returns-clause-turned : goal.returns-clause-turned

@@ -4,7 +4,8 @@ use Rattle.fab_model.specs.Peers.{is_of_ctx}
 use Rattle.fab_peer.specs.Turns.{told}
 use Rattle.fab_model.proofs.Firsts.{not_found}
 use Rattle.fab_peer.proofs.Calling.{wait_none, wait_done, told_is}
-use Rattle.fab_peer.proofs.Leaving.{on_err, wait_left}
+use Rattle.fab_base.proofs.Options.{on_err}
+use Rattle.fab_peer.proofs.Leaving.{wait_left}
 use Rattle.fab_peer.proofs.peer.Peer.wait.Goals as goal
 
 pub returns-in_default-clause-on : goal.returns-in_default-clause-on
