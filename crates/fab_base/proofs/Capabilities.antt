@@ -6,7 +6,7 @@ use Rattle.std.proofs.lemmas.List.FromFn.{get_or-range_with_len}
 use Rattle.std.proofs.lemmas.List.Folds.{list_any_at, list_all_at}
 use Rattle.fab_base.specs.Granted.{all_caps, cap_index, caps_of, has}
 use Rattle.fab_base.specs.declared.caps.Cap.{Cap}
-use Rattle.fab_base.specs.declared.caps.Cap.TheVariants.{Msg, Tagged, Rma, Atomic, DirectedRecv, Send, Recv, Read, Write, RemoteRead, RemoteWrite, MultiRecv, Source, RmaEvent, Fence, LocalComm}
+use Rattle.fab_base.specs.declared.caps.Cap.TheVariants.{Msg}
 use Rattle.fab_base.specs.declared.caps.Caps.{Caps}
 use Rattle.fab_base.proofs.Places.{at_lt, at_or}
 use lib.ListN.{get_elem?}
@@ -15,21 +15,7 @@ use mathlib.Core.Option.{some}
 -- each stands at its index
 at_index : (cap : Cap) → get_elem? all_caps (cap_index cap) ≡ some cap
 at_index Msg = refl
-at_index Tagged = refl
-at_index Rma = refl
-at_index Atomic = refl
-at_index DirectedRecv = refl
-at_index Send = refl
-at_index Recv = refl
-at_index Read = refl
-at_index Write = refl
-at_index RemoteRead = refl
-at_index RemoteWrite = refl
-at_index MultiRecv = refl
-at_index Source = refl
-at_index RmaEvent = refl
-at_index Fence = refl
-at_index LocalComm = refl
+at_index _ = refl
 
 pub index_below : (cap : Cap) → cap_index cap < length all_caps
 index_below cap = at_lt all_caps (cap_index cap) cap (at_index cap)

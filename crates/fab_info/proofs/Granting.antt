@@ -11,7 +11,7 @@ use Rattle.fab_base.specs.Offer.{limits_of, is_offered, most_message, most_peers
 use Rattle.fab_base.specs.declared.caps.Api.{Api}
 use Rattle.fab_base.specs.declared.caps.Api.TheVariants.{One, Two}
 use Rattle.fab_base.specs.declared.caps.Cap.{Cap}
-use Rattle.fab_base.specs.declared.caps.Cap.TheVariants.{Msg, Tagged, Rma, Atomic, DirectedRecv, Send, Recv, Read, Write, RemoteRead, RemoteWrite, MultiRecv, Source, RmaEvent, Fence, LocalComm}
+use Rattle.fab_base.specs.declared.caps.Cap.TheVariants.{Msg, Tagged, Rma, Atomic, DirectedRecv, Send, Recv, Read, Write, RemoteRead, RemoteWrite}
 use Rattle.fab_base.specs.declared.caps.Caps.{Caps}
 use Rattle.fab_base.specs.declared.caps.Hints.{Hints}
 use Rattle.fab_base.specs.declared.limits.Size.{Size}
@@ -45,11 +45,7 @@ module _ (api : Api) where
   grants_of_asked set Write e o = rw e
   grants_of_asked set RemoteRead e o = rw e
   grants_of_asked set RemoteWrite e o = rw e
-  grants_of_asked set MultiRecv e o = o
-  grants_of_asked set Source e o = o
-  grants_of_asked set RmaEvent e o = o
-  grants_of_asked set Fence e o = o
-  grants_of_asked set LocalComm e o = o
+  grants_of_asked set _ e o = o
 
   -- what is asked for and not refused is on offer
   offered_of : (set : Caps) (cap : Cap) → list_any (is_not_offered api set) all_caps ≡ false → has set cap ≡ true → is_offered api cap ≡ true

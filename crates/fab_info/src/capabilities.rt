@@ -49,9 +49,7 @@ fn shares(api: Api, asked: &Caps, cap: Cap) -> bool
         Cap::Read | Cap::Write | Cap::RemoteRead | Cap::RemoteWrite => {
             modifies(asked, &MEMORY, &MEMORY_MODIFIERS, cap)
         }
-        Cap::MultiRecv | Cap::Source | Cap::RmaEvent | Cap::Fence | Cap::LocalComm => {
-            cap.is_offered(api)
-        }
+        _ => cap.is_offered(api),
     }
 }
 

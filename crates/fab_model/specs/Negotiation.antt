@@ -8,7 +8,7 @@ use Rattle.fab_base.specs.Granted.{all_caps, caps_of, has, no_caps}
 use Rattle.fab_base.specs.Offer.{limits_of, is_offered}
 use Rattle.fab_base.specs.declared.caps.Api.{Api}
 use Rattle.fab_base.specs.declared.caps.Cap.{Cap}
-use Rattle.fab_base.specs.declared.caps.Cap.TheVariants.{Msg, Tagged, Rma, Atomic, DirectedRecv, Send, Recv, Read, Write, RemoteRead, RemoteWrite, MultiRecv, Source, RmaEvent, Fence, LocalComm}
+use Rattle.fab_base.specs.declared.caps.Cap.TheVariants.{Msg, Tagged, Rma, Atomic, DirectedRecv, Send, Recv, Read, Write, RemoteRead, RemoteWrite}
 use Rattle.fab_base.specs.declared.caps.Caps.{Caps}
 use Rattle.fab_base.specs.declared.caps.Hints.{Hints}
 use Rattle.fab_base.specs.declared.caps.Info.{Info}
@@ -45,11 +45,7 @@ grants_of api asked Read = modifier asked (Rma ∷ Atomic ∷ []) memory_modifie
 grants_of api asked Write = modifier asked (Rma ∷ Atomic ∷ []) memory_modifiers Write
 grants_of api asked RemoteRead = modifier asked (Rma ∷ Atomic ∷ []) memory_modifiers RemoteRead
 grants_of api asked RemoteWrite = modifier asked (Rma ∷ Atomic ∷ []) memory_modifiers RemoteWrite
-grants_of api asked MultiRecv = is_offered api MultiRecv
-grants_of api asked Source = is_offered api Source
-grants_of api asked RmaEvent = is_offered api RmaEvent
-grants_of api asked Fence = is_offered api Fence
-grants_of api asked LocalComm = is_offered api LocalComm
+grants_of api asked cap = is_offered api cap
 
 -- whoever asks for nothing is granted the whole offer
 abbrev pub grants : Api → Caps → Cap → Bool
