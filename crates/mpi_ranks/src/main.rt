@@ -2,8 +2,8 @@
 //! thread of its own; and once more among 8 ranks that sleep while they wait, and 32 that do where there are fewer processors.
 //!
 //! Words are for who measures: `mpi_ranks ROUNDS RANKS spin` and `mpi_ranks ROUNDS RANKS sleep` make so many rounds of a barrier and an
-//! allreduce among so many ranks, and tell how long a round takes; with `halo` behind them, of an exchange with both neighbours on a
-//! ring. Without the third word the number of processors decides.
+//! allreduce among so many ranks, and tell how long a round takes; with `barrier`, `allreduce`, `broadcast` or `halo` behind them, of that
+//! alone, and with a number behind this, of so many bytes. Without the third word the number of processors decides.
 #![tactic(auto)]
 
 mod rounds;

@@ -1,4 +1,4 @@
-//! For who measures: rounds of a barrier and an allreduce, or of an exchange between neighbours, and how long one takes.
+//! For who measures: rounds of collectives, or of an exchange between neighbours, and how long one takes.
 use mini_mpi::{
     AtomicOp, Buf, Calls, EndpointOver, Error, Hints, Num, Request, Sleeps, Waiting, World, open,
 };
@@ -8,8 +8,11 @@ use std::thread::{self, Threads};
 use std::time::{Clock, Instant};
 use std::{env, io};
 
-/// How many bytes a rank gives to each of its neighbours.
-const EDGE_BYTES: u64 = 512;
+/// How many bytes a rank gives to each of its neighbours where no word says so.
+const EDGE_BYTES: u32 = 512;
+
+/// How many bytes an allreduce and a broadcast have where no word says so: an element.
+const SHARE_BYTES: u32 = 8;
 
 /// The tag of these messages.
 const EDGE: u32 = 0;
@@ -19,7 +22,13 @@ const EDGE: u32 = 0;
 enum Round {
     /// A barrier, and an allreduce of eight bytes.
     Meet,
-    /// Each gives an edge to the ranks on both sides of it, on a ring, and takes theirs.
+    /// A barrier.
+    Barrier,
+    /// The sum of elements of eight bytes, so many bytes of each rank.
+    Allreduce,
+    /// So many bytes of each rank in turn go to all.
+    Broadcast,
+    /// Each gives so many bytes to the ranks on both sides of it, on a ring, and takes theirs.
     Halo,
 }
 
@@ -30,13 +39,14 @@ pub(crate) struct Asked {
     ranks: u32,
     waiting: Option<Waiting>,
     what: Round,
+    bytes: u32,
 }
 
-/// The number that a word tells, or 1 where it is lacking or no number.
-fn number(word: Option<String>) -> u32 {
+/// The number that a word tells, or another one where it is lacking or no number.
+fn number(word: Option<String>, otherwise: u32) -> u32 {
     match word {
-        Some(word) => word.as_str().parse::<u32>().unwrap_or(1),
-        None => 1,
+        Some(word) => word.as_str().parse::<u32>().unwrap_or(otherwise),
+        None => otherwise,
     }
 }
 
@@ -53,10 +63,21 @@ fn waiting_by(word: Option<String>) -> Option<Waiting> {
 fn round_by(word: Option<String>) -> Round {
     match word {
         Some(word) => match word.as_str() {
+            "barrier" => Round::Barrier,
+            "allreduce" => Round::Allreduce,
+            "broadcast" => Round::Broadcast,
             "halo" => Round::Halo,
             _ => Round::Meet,
         },
         None => Round::Meet,
+    }
+}
+
+/// How many bytes it has where no word says so.
+fn usual_bytes(what: Round) -> u32 {
+    match what {
+        Round::Halo => EDGE_BYTES,
+        Round::Meet | Round::Barrier | Round::Allreduce | Round::Broadcast => SHARE_BYTES,
     }
 }
 
@@ -67,15 +88,17 @@ pub(crate) fn read_words(rt: &HostRuntime) -> io::Result<Option<Asked>> {
     let Some(first) = words.next() else {
         return Ok(None);
     };
-    let rounds = number(Some(first));
-    let ranks = number(words.next());
+    let rounds = number(Some(first), 1);
+    let ranks = number(words.next(), 1);
     let waiting = waiting_by(words.next());
     let what = round_by(words.next());
+    let bytes = number(words.next(), usual_bytes(what));
     Ok(Some(Asked {
         rounds,
         ranks,
         waiting,
         what,
+        bytes,
     }))
 }
 
@@ -91,9 +114,10 @@ fn expect<E: Calls + Drop>(
     alloc: Global,
     world: &mut World<E>,
     from: u32,
+    bytes: u32,
     requests: &mut Vec<Request>,
 ) -> Result<(), Error> {
-    let buf = Buf::zeros(alloc, EDGE_BYTES)?;
+    let buf = Buf::zeros(alloc, u64::from(bytes))?;
     let request = world.irecv(Some(from), Some(EDGE), buf)?;
     requests.push(request)?;
     Ok(())
@@ -104,9 +128,10 @@ fn give<E: Calls + Drop>(
     alloc: Global,
     world: &mut World<E>,
     to: u32,
+    bytes: u32,
     requests: &mut Vec<Request>,
 ) -> Result<(), Error> {
-    let buf = Buf::zeros(alloc, EDGE_BYTES)?;
+    let buf = Buf::zeros(alloc, u64::from(bytes))?;
     let request = world.isend(to, EDGE, buf)?;
     requests.push(request)?;
     Ok(())
@@ -126,80 +151,123 @@ fn exchange<R: Wait, E: Calls + Drop>(
     rt: &R,
     alloc: Global,
     world: &mut World<E>,
+    bytes: u32,
 ) -> Result<(), Error> {
     let (after, before) = neighbours(world);
     let mut requests = Vec::new(alloc);
-    expect(alloc, world, before, &mut requests)?;
-    expect(alloc, world, after, &mut requests)?;
-    give(alloc, world, after, &mut requests)?;
-    give(alloc, world, before, &mut requests)?;
+    expect(alloc, world, before, bytes, &mut requests)?;
+    expect(alloc, world, after, bytes, &mut requests)?;
+    give(alloc, world, after, bytes, &mut requests)?;
+    give(alloc, world, before, bytes, &mut requests)?;
     world.waitall(rt, requests)?;
     Ok(())
 }
 
-/// Makes a round.
+/// Makes the round of this number; `share` is what the rank gives and gets.
 fn go<R: Wait, E: Calls + Drop>(
     rt: &R,
     alloc: Global,
     world: &mut World<E>,
-    what: Round,
+    asked: Asked,
+    share: &mut Vec<u8>,
+    round: u32,
 ) -> Result<(), Error> {
-    match what {
+    match asked.what {
         Round::Meet => meet(rt, world),
-        Round::Halo => exchange(rt, alloc, world),
+        Round::Barrier => world.barrier(rt),
+        Round::Allreduce => world.allreduce(rt, AtomicOp::Sum, Num::U64, share.as_mut_slice()),
+        Round::Broadcast => world.bcast(rt, round % world.size().max(1), share.as_mut_slice()),
+        Round::Halo => exchange(rt, alloc, world, asked.bytes),
     }
 }
 
+/// The nanoseconds since then, or none where the clock fails.
+fn since<R: Clock>(rt: &R, begun: io::Result<Instant>) -> u128 {
+    match begun {
+        Ok(begun) => match begun.elapsed(rt) {
+            Ok(time) => time.as_nanos(),
+            Err(_) => 0,
+        },
+        Err(_) => 0,
+    }
+}
+
+/// Makes all rounds, and tells how long they took once all ranks had begun.
+fn timed<R: Wait + Clock, E: Calls + Drop>(
+    rt: &R,
+    alloc: Global,
+    world: &mut World<E>,
+    asked: Asked,
+) -> Result<u128, Error> {
+    let mut share = vec![in alloc; 0u8; asked.bytes as usize]?;
+    world.barrier(rt)?;
+    let begun = Instant::now(rt);
+    for round in 0..asked.rounds {
+        go(rt, alloc, world, asked, &mut share, round)?;
+    }
+    Ok(since(rt, begun))
+}
+
 /// Makes all rounds, as the rank of this endpoint.
-fn run<R: Wait, E: Calls + Sleeps + Drop>(
+fn run<R: Wait + Clock, E: Calls + Sleeps + Drop>(
     rt: &R,
     alloc: Global,
     endpoint: EndpointOver<E>,
     waiting: Waiting,
     asked: Asked,
-) -> Result<(), Error> {
+) -> Result<u128, Error> {
     let mut world = World::with_waiting(alloc, endpoint, waiting);
-    for _ in 0..asked.rounds {
-        go(rt, alloc, &mut world, asked.what)?;
-    }
+    let nanos = timed(rt, alloc, &mut world, asked)?;
     world.finalize(rt)?;
-    Ok(())
+    Ok(nanos)
 }
 
-/// Lets each rank run in a thread of its own, and tells whether all made their rounds.
-fn all_ranks<R: Threads + Wait + Sync, E: Calls + Sleeps + Drop + Send>(
+/// The longest that a rank took, where all made their rounds.
+fn longest(ran: &Vec<Result<u128, Error>>) -> Option<u128> {
+    let mut nanos = 0;
+    for one in ran {
+        match one {
+            Ok(took) => nanos = nanos.max(*took),
+            Err(_) => return None,
+        }
+    }
+    Some(nanos)
+}
+
+/// Lets each rank run in a thread of its own, and tells how long the rounds took where all made them.
+fn all_ranks<R: Threads + Wait + Clock + Sync, E: Calls + Sleeps + Drop + Send>(
     rt: &R,
     alloc: Global,
     endpoints: Vec<EndpointOver<E>>,
     waiting: Waiting,
     asked: Asked,
-) -> bool {
+) -> Option<u128> {
     let ran = thread::map_vec(
         rt,
         endpoints,
         &|endpoint| run(rt, alloc, endpoint, waiting, asked),
     );
     match ran {
-        Ok(all) => all.iter().all(|one| one.is_ok()),
-        Err(_) => false,
+        Ok(all) => longest(&all),
+        Err(_) => None,
     }
 }
 
 /// Opens the endpoints, and lets all ranks run.
-fn run_rounds<R: Threads + Wait + Sync>(
+fn run_rounds<R: Threads + Wait + Clock + Sync>(
     rt: &R,
     alloc: Global,
     waiting: Waiting,
     asked: Asked,
-) -> bool {
+) -> Option<u128> {
     let hints = Hints::new().peers(asked.ranks).sleeping(waiting.sleeps());
     match open(alloc, &hints) {
         Ok(domain) => all_ranks(rt, alloc, domain.endpoints, waiting, asked),
-        Err(_) => false,
+        Err(_) => None,
     }
 }
 
-/// Prints how long a round took, with a share of the time in which the threads began.
+/// Prints how long a round took.
 pub(crate) fn measure<R: Print + Clock + Threads + Wait + Sync>(
     rt: &R,
     alloc: Global,
@@ -209,17 +277,16 @@ pub(crate) fn measure<R: Print + Clock + Threads + Wait + Sync>(
         rounds,
         ranks,
         what,
+        bytes,
         ..
     } = asked;
     let waiting = match asked.waiting {
         Some(waiting) => waiting,
         None => Waiting::here(rt, ranks),
     };
-    let begun = Instant::now(rt)?;
-    if !run_rounds(rt, alloc, waiting, asked) {
+    let Some(nanos) = run_rounds(rt, alloc, waiting, asked) else {
         return println!(rt; "no ranks, or no memory");
-    }
-    let nanos = begun.elapsed(rt)?.as_nanos();
+    };
     let each = nanos / u128::from(rounds.max(1));
-    println!(rt; "{ranks} ranks, {waiting:?}, {what:?}: {each} ns a round")
+    println!(rt; "{ranks} ranks, {waiting:?}, {what:?} of {bytes} bytes: {each} ns a round")
 }
