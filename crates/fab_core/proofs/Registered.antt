@@ -1,6 +1,6 @@
 -- Calls of the owner of the regions are the machine's.
 use Rattle.std.proofs.Common.{◌≡◌, ◌≢◌, ℕ, ◌+◌, Bool, true, false, List, [], ◌∷◌, ◌++◌, length, Option, Some, None, refl, sym, ap, ◌∙◌, subst}
-use Rattle.std.specs.Prelude.{IfErr, IfOk, IfSome, MatchOption, OnErr, OnOk, Result, Ok, Err, find, is_some, nat_lt, if◌then◌else◌}
+use Rattle.std.specs.Prelude.{IfErr, IfOk, IfSome, MatchOption, OnErr, OnOk, Result, Ok, Err, is_some, nat_lt, if◌then◌else◌}
 use Rattle.std.specs.Option.{ok_or, option_map}
 use Rattle.fab_base.specs.declared.faults.Fault.{Fault}
 use Rattle.fab_base.specs.declared.faults.Fault.TheVariants.{NoKey, NoMemory, NotSupported, Range}
@@ -17,21 +17,11 @@ use Rattle.fab_rma.specs.Serving.{Serving}
 use Rattle.fab_face.specs.Targets.{DoesHere}
 use Rattle.fab_core.specs.Parts.{Parts, held_of, state_of}
 use Rattle.fab_settling.specs.Orders.{lacks}
-
-abbrev region : ℕ → Access → List ℕ → Region
-region key access bytes = record { key = key; access = access; bytes = bytes }
-
-abbrev region_at : List Region → ℕ → Option Region
-region_at regions key = find (is_keyed key) regions
-
-abbrev reaches_past : Region → ℕ → ℕ → Bool
-reaches_past r at n = nat_lt (length r.bytes) (at + n)
+use Rattle.fab_mr.specs.Regions.{region, region_at, reaches_past}
+use Rattle.fab_model.specs.Arrivals.{with_regions}
 
 abbrev pub with_target : Serving → Parts → Parts
 with_target x p = record p { target = x }
-
-abbrev pub with_regions : List Region → State → State
-with_regions regions s = record s { regions = regions }
 
 module _ (p : Parts) (call : Call) (x : Serving) where
   -- the regions are these then

@@ -8,7 +8,7 @@ use Rattle.fab_base.specs.declared.frames.Frame.{Frame}
 use Rattle.fab_base.specs.declared.items.Item.{Item}
 use Rattle.fab_link.specs.Joined.{is_last}
 use Rattle.fab_model.specs.State.{accepted_for, held_for}
-use Rattle.fab_model.specs.Sending.{items_of, do_sent}
+use Rattle.fab_model.specs.Sending.{items_of, do_sent, items_for}
 use Rattle.fab_face.specs.Machine.{IsSteady}
 use Rattle.fab_face.specs.Held.{Held, piece, next_item, next_frame}
 use Rattle.fab_face.specs.Acts.{Departs, Goes, Posted, Went}
@@ -19,7 +19,7 @@ use Rattle.fab_model.proofs.Unchanged.{sent_raised as sent_sent}
 use Rattle.fab_ep.specs.declared.endpoint.Tried.{Tried}
 use Rattle.fab_ep.specs.declared.endpoint.Tried.TheVariants.{Moved, Nothing, Held as HeldBack, Short}
 use Rattle.fab_ep.specs.Tries.{PushesOut, has_moved, left_of, left_for}
-use Rattle.fab_ep.proofs.Sent.{items_for, sent_whole}
+use Rattle.fab_ep.proofs.Sent.{sent_whole}
 use Rattle.fab_ep.proofs.Posting.{place_within}
 
 -- the item that the frame is of

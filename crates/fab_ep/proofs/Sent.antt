@@ -1,15 +1,14 @@
 -- What the transmission of an item makes of what is held.
 --     sent_on t tx      the oldest item for t is transmitted, and where an operation ends with it, those that waited for it go on
-use Rattle.std.proofs.Common.{◌≡◌, ◌≢◌, ◌<◌, ◌≤◌, ◌+◌, ℕ, Bool, true, false, List, [], ◌∷◌, ◌++◌, length, length-append, append_assoc, get_or-set_same, get_or-set_other, Option, Some, None, refl, sym, ap, ◌∙◌, arith}
+use Rattle.std.proofs.Common.{◌≡◌, ◌≢◌, ◌<◌, ◌≤◌, ◌+◌, ℕ, Bool, true, false, [], ◌∷◌, ◌++◌, length, length-append, append_assoc, get_or-set_same, get_or-set_other, Option, Some, None, refl, sym, ap, ◌∙◌, arith}
 use Rattle.std.specs.Prelude.{slice_index}
 use Rattle.std.proofs.lemmas.List.{map-append}
 use Rattle.fab_base.specs.declared.entries.Taken.{Taken}
-use Rattle.fab_base.specs.declared.items.Item.{Item}
 use Rattle.fab_base.specs.declared.items.Outcome.TheVariants.{Done}
 use Rattle.fab_base.specs.declared.operations.Held.{Held}
 use Rattle.fab_base.specs.declared.operations.Operation.{Operation}
 use Rattle.fab_model.specs.State.{State, Transmitting, accepted_for, held_for, write, count, with_tx, raise}
-use Rattle.fab_model.specs.Sending.{ending, transmitting, is_busy, let_out, held_back, items_of, letting_out, going_on, end_with, do_sent, class_of}
+use Rattle.fab_model.specs.Sending.{ending, transmitting, is_busy, let_out, held_back, items_of, letting_out, going_on, end_with, do_sent, class_of, transmitted as sent_on, items_for}
 use Rattle.fab_model.proofs.Fences.{out_and_back}
 use Rattle.fab_model.proofs.Letting.{stays}
 use Rattle.fab_model.proofs.Unchanged.{sent_raised as sent_sent}
@@ -44,9 +43,6 @@ keeps_end o s =
     keeps_bool s o.silent _ _ counted (keeps_write _ _ s (count (class_of o.head) true s) counted)
 
 -- ---- the half that is stored
-
-abbrev pub sent_on : ℕ → Transmitting → Transmitting
-sent_on t tx = elim (ending t tx) [ None ↦ transmitting t tx | Some o ↦ going_on t (transmitting t tx) ]
 
 pub keeps_sent : (s : State) (t : ℕ) → Keeps (with_tx (sent_on t s.tx) s) (do_sent s t)
 unfolding do_sent
@@ -84,10 +80,6 @@ going_parts t tx = (refl, refl)
 going_other : (t d : ℕ) (tx : Transmitting) → d ≢ t → accepted_for (going_on t tx) d ≡ accepted_for tx d
 unfolding letting_out
 going_other t d tx other = get_or-set_other tx.accepted t d _ [] other
-
--- all items for a peer, those held back behind those accepted
-abbrev pub items_for : Transmitting → ℕ → List Item
-items_for tx t = accepted_for tx t ++ items_of (held_for tx t)
 
 going_whole : (t : ℕ) (tx : Transmitting) → t < length tx.accepted → t < length tx.held → items_for (going_on t tx) t ≡ items_for tx t
 unfolding letting_out

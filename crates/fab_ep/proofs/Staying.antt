@@ -13,7 +13,7 @@ use Rattle.fab_base.specs.declared.operations.Operation.{Operation}
 use Rattle.fab_base.proofs.Bools.{or_false, or_assoc}
 use Rattle.fab_model.specs.Matching.{remove_first}
 use Rattle.fab_model.specs.State.{State, Completions, Transmitting, accepted_for, held_for, fits, with_tx}
-use Rattle.fab_model.specs.Sending.{ending, is_busy, let_out, operations_from, letting_out, going_on, is_of_item, transmitting, end_with, do_sent}
+use Rattle.fab_model.specs.Sending.{ending, is_busy, let_out, operations_from, letting_out, going_on, is_of_item, transmitting, end_with, do_sent, transmitted as sent_on}
 use Rattle.fab_link.specs.Joined.{is_last}
 use Rattle.fab_face.specs.Held.{Held, Seen, next_frame}
 use Rattle.fab_face.specs.Acts.{Act, Went, Departs, is_post}
@@ -24,7 +24,7 @@ use Rattle.fab_ep.specs.declared.endpoint.Tried.{Tried}
 use Rattle.fab_ep.specs.declared.endpoint.Tried.TheVariants.{Moved, Nothing, Held as HeldBack, Short}
 use Rattle.fab_ep.specs.Tries.{Calm, TriesOut, PushedTo, Pushed, Pushes, HeldStays}
 use Rattle.fab_ep.proofs.Posting.{other_peer}
-use Rattle.fab_ep.proofs.Sent.{on_as, sent_on, sent_is_none, sent_is_some, sent_next, keeps_sent}
+use Rattle.fab_ep.proofs.Sent.{on_as, sent_is_none, sent_is_some, sent_next, keeps_sent}
 use Rattle.fab_ep.proofs.Fairness.{full_on}
 use Rattle.fab_ep.proofs.Pushing.{any_append}
 

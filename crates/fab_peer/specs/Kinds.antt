@@ -6,12 +6,8 @@
 --     is_on_regions, is_own     what the peer does with its own regions, counters and addresses
 use Rattle.std.specs.Prelude.{Bool, true, false}
 use Rattle.fab_base.specs.declared.script.LineOp.{LineOp}
-use Rattle.fab_base.specs.declared.script.LineOp.TheVariants.{Send, TSend, Inject, TInject, Recv, TRecv, MRecv, Cancel, Peek, Claim, Discard, Take, DropClaimed, Read, Write, WInject, Atomic, Fetch, Compare, Reg, Close, Put, Show, Insert, Remove, Count, Reach}
-
-abbrev pub is_send : LineOp → Bool
-is_send (Send ctx dest bytes imm level completion fence) = true
-is_send (TSend ctx dest tag bytes imm level completion fence) = true
-is_send _ = false
+use Rattle.fab_base.specs.declared.script.LineOp.TheVariants.{Inject, TInject, Recv, TRecv, MRecv, Cancel, Peek, Claim, Discard, Take, DropClaimed, Read, Write, WInject, Atomic, Fetch, Compare, Reg, Close, Put, Show, Insert, Remove, Count, Reach}
+pub use Rattle.fab_base.specs.Lines.{is_send}
 
 abbrev pub is_inject : LineOp → Bool
 is_inject (Inject dest bytes imm) = true

@@ -38,6 +38,7 @@ use Rattle.fab_face.specs.declared.events.Moved.{Moved}
 use Rattle.fab_face.specs.Answers.{IsIdle, AllAre, Lends, LendsNone, Progressed, after_read}
 use Rattle.fab_link.specs.Meaning.{end_of}
 use Rattle.fab_link.specs.Frames.{IsLane}
+pub use Rattle.fab_base.specs.Many.{bit as line_if}
 
 pub record Told (Home : Type 0) : Type 0 where
   pub seen : Seen Home
@@ -206,10 +207,6 @@ noted result a = record a { results = a.results ++ result ∷ []; schedule = a.s
 abbrev pub is_line : Act → Bool
 is_line Did = true
 is_line _ = false
-
-abbrev pub line_if : Bool → ℕ
-line_if true = 1
-line_if false = 0
 
 -- the next line cannot be done, or a draw is due for which the log had no room
 abbrev pub Waits : {Home : Type 0} → Told Home → Type 0

@@ -23,6 +23,7 @@ use Rattle.fab_model.specs.State.{Receiving, coming_from, under_way}
 use Rattle.fab_model.specs.Complete.{filling, is_made_by}
 use Rattle.fab_model.specs.Receiving.{draw_due, goes, joining_posted, without_first}
 use Rattle.fab_model.specs.Arrivals.{heading_message, heading_other, keeping, made_whole}
+pub use Rattle.fab_base.specs.Begun.{count_begun, bytes_begun as bytes_come}
 
 pub record Arriving : Type 0 where
   -- the machine's part
@@ -111,10 +112,6 @@ kept (Some Keep) source bytes rx = keeping source bytes rx
 kept (Some (Into r place)) source bytes rx = shared r.least r place bytes rx
 kept _ source bytes rx = rx
 
-abbrev pub bytes_come : Option Item → List ℕ
-bytes_come None = []
-bytes_come (Some item) = item.bytes
-
 abbrev pub finishing : ℕ → Arriving → Arriving
 finishing source v = record {
   rx = kept (coming_from v.rx source) source (bytes_come (begun_of v source)) (made_whole source v.rx);
@@ -190,10 +187,6 @@ pub record IsPartly (a : Arrival) (c : Option Coming) (b : Option Item) : Type 0
 
 abbrev pub PartlyIn : Arriving → Arrival → Type 0
 PartlyIn v a = a.bytes ≡ None → IsPartly a (coming_from v.rx a.source) (begun_of v a.source)
-
-abbrev pub count_begun : Option Item → ℕ
-count_begun None = 0
-count_begun (Some item) = 1
 
 pub record IsPlain (rx : Receiving) : Type 0 where
   -- receives are for one message each
